@@ -1,0 +1,6 @@
+pub mod Faults
+pub mod Fields
+pub mod Lines
+pub mod Rows
+pub mod Sheets
+pub mod Sides

@@ -1,0 +1,24 @@
+// Demand bounds of firmware components that share one core.
+
+mod binder;
+mod fault;
+mod fields;
+mod line;
+mod line_sheet;
+mod row;
+mod row_sheet;
+mod sheet;
+mod sheet_binder;
+mod side_by_side;
+
+pub use binder::Binder;
+pub use fault::FileFault;
+pub use fault::Location;
+pub use fault::RecordStart;
+pub use line::Line;
+pub use line_sheet::LineSheet;
+pub use row::Row;
+pub use row_sheet::RowSheet;
+pub use sheet::Sheet;
+pub use sheet_binder::SheetBinder;
+pub use side_by_side::SideBySide;
