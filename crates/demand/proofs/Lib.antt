@@ -1,3 +1,4 @@
+pub mod Admitted
 pub mod Faults
 pub mod Lawful
 pub mod Rows

@@ -1,5 +1,6 @@
 // Demand bounds of firmware components that share one core.
 
+mod admission;
 mod binder;
 mod fault;
 mod fields;
@@ -10,7 +11,14 @@ mod row_sheet;
 mod sheet;
 mod sheet_binder;
 mod side_by_side;
+mod verdict;
 
+pub use admission::admission_test;
+pub use admission::admit;
+pub use admission::tightest;
+pub use admission::total_demand;
+pub use admission::total_gain;
+pub use admission::verdict_numbers;
 pub use binder::Binder;
 pub use fault::FileFault;
 pub use fault::Location;
@@ -22,3 +30,4 @@ pub use row_sheet::RowSheet;
 pub use sheet::Sheet;
 pub use sheet_binder::SheetBinder;
 pub use side_by_side::SideBySide;
+pub use verdict::TestRefusal;
