@@ -2,8 +2,10 @@ ghost use mathlib.Core.Bool.{true};
 ghost use mathlib.Core.Path.{_≡_};
 ghost use Rattle.demand.specs.Lines.{sound-line};
 
+pub(crate) mod asking;
 mod bounds;
 pub(crate) mod making;
+pub(crate) mod reading;
 
 use crate::line::Line;
 

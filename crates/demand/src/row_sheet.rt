@@ -4,8 +4,10 @@ ghost use Prim.Native.Nat.{_≤_};
 ghost use lib.ListN.{take};
 ghost use Rattle.demand.specs.Rows.{sound-rows};
 
+pub(crate) mod asking;
 mod bounds;
 pub(crate) mod making;
+pub(crate) mod reading;
 
 use crate::row::Row;
 

@@ -1,0 +1,7 @@
+use mathlib.Core.Logic.{inr}
+use native.Mathlib.Omega.{arith}
+use Rattle.demand.proofs.Records.{rows-refused}
+use Rattle.demand.proofs.row_sheet.reading.RowSheetKind.the-impl.Needs as need
+
+pub short-law : need.short-law
+short-law fs start h = rows-refused fs start (inr (omega arith))

@@ -1,0 +1,30 @@
+ghost use Rattle.demand.specs.Kinds.{line-record};
+ghost use Rattle.demand.specs.Sheets.{line};
+
+use crate::fault::FileFault;
+use crate::fault::RecordStart;
+use crate::kind::SheetKind;
+use crate::line::Line;
+use crate::line_sheet::making::sheet_of_line;
+use crate::line_sheet::LineSheet;
+
+pub impl SheetKind for LineSheet as LineSheetKind {
+    const KIND: u16 = 2;
+
+    ghost number = { 2 };
+
+    ghost declares = { λ s. line (s .line) };
+
+    ghost judged = { line-record };
+
+    fn tag() -> u16 {
+        Self::KIND
+    }
+
+    fn from_fields(fields: &[u16], start: RecordStart) -> Result<LineSheet, FileFault> {
+        let [deadline, burst, per, rate] = fields else {
+            return Err(FileFault::WrongLength(start.at(0)));
+        };
+        sheet_of_line(Line { deadline: *deadline, burst: *burst, per: *per, rate: *rate }, start)
+    }
+}
