@@ -15,7 +15,8 @@ use Rattle.demand.specs.declared.verdict.TestRefusal.{TestRefusal}
 use Rattle.demand.specs.declared.verdict.TestRefusal.the-variants.{DemandExceeds, GainsExceed, SheetCount}
 use Rattle.demand.specs.Fields.{from-to}
 use Rattle.demand.proofs.Rows.{range-from}
-use Rattle.demand.specs.Admission.{total, demand, first-exceeded, by-gains, admission, verdict-numbers, DemandFits, slack, Tightest}
+use Rattle.demand.specs.Verdicts.{verdict-numbers}
+use Rattle.demand.specs.Admission.{total, demand, first-exceeded, by-gains, admission, DemandFits, slack, Tightest}
 
 -- one component more
 pub total-more : (n : ℕ) (f : ℕ → ℕ) → total (n + 1) f ≡ total n f + f n

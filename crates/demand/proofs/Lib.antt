@@ -5,3 +5,4 @@ pub mod Lawful
 pub mod Rows
 pub mod Sheets
 pub mod Sides
+pub mod Sporadic

@@ -34,13 +34,6 @@ abbrev pub admission : ℕ → (ℕ → ℕ → ℕ) → (ℕ → ℕ) → Resul
 admission count bound gain =
     cond (from-to 1 8 count) (by-gains (first-exceeded (demand count bound) 1 8192) (total count gain)) (Err SheetCount)
 
--- the verdict as refusal number and length, (0, 0) for admitted
-abbrev pub verdict-numbers : Result (Unit {0}) TestRefusal → ℕ × ℕ
-verdict-numbers (Ok _) = (0, 0)
-verdict-numbers (Err (DemandExceeds l)) = (8, l)
-verdict-numbers (Err GainsExceed) = (9, 0)
-verdict-numbers (Err SheetCount) = (10, 0)
-
 -- one to eight components that together never demand more than the core supplies
 pub record DemandFits (count : ℕ) (bound : ℕ → ℕ → ℕ) : Type 0 where
   pub some : 1 ≤ count

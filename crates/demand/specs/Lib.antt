@@ -6,3 +6,5 @@ pub mod Lines
 pub mod Rows
 pub mod Sheets
 pub mod Sides
+pub mod Sporadic
+pub mod Verdicts

@@ -1,5 +1,6 @@
 ghost use mathlib.Core.Path.{_≡_};
-ghost use Rattle.demand.specs.Admission.{total, demand, admission, verdict-numbers, DemandFits, Tightest};
+ghost use Rattle.demand.specs.Admission.{total, demand, admission, DemandFits, Tightest};
+ghost use Rattle.demand.specs.Verdicts.{verdict-numbers};
 
 use crate::binder::Binder;
 use crate::verdict::TestRefusal;
@@ -51,9 +52,7 @@ pub fn verdict_numbers(answer: Result<(), TestRefusal>) -> (u32, u32)
 {
     match answer {
         Ok(()) => (0, 0),
-        Err(TestRefusal::DemandExceeds(length)) => (8, length),
-        Err(TestRefusal::GainsExceed) => (9, 0),
-        Err(TestRefusal::SheetCount) => (10, 0),
+        Err(refusal) => refusal.numbers(),
     }
 }
 

@@ -1,6 +1,8 @@
 ghost use mathlib.Core.Path.{_≡_};
 ghost use Rattle.demand.specs.Faults.{spot, fault-numbers};
 
+use crate::refusal::Refusal;
+
 // Where a record of a binder file begins: its index, counted from 0, and its byte offset in the file.
 #[derive(Clone, Copy)]
 pub struct RecordStart {
@@ -57,5 +59,13 @@ impl FileFault {
             FileFault::OutOfOrder(at) => (5, at.index, at.place),
             FileFault::RecordCount(at) => (6, at.index, at.place),
         }
+    }
+}
+
+pub impl Refusal for FileFault as FileFaultRefusal {
+    ghost numbered = { λ x. fault-numbers x .0 };
+
+    fn number(&self) -> u32 {
+        self.numbers().0
     }
 }

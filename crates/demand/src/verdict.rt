@@ -1,3 +1,8 @@
+ghost use mathlib.Core.Path.{_≡_};
+ghost use Rattle.demand.specs.Verdicts.{refusal-numbers};
+
+use crate::refusal::Refusal;
+
 // Why the admission test refuses a binder.
 #[derive(Clone, Copy, PartialEq, Eq, Debug)]
 pub enum TestRefusal {
@@ -7,4 +12,25 @@ pub enum TestRefusal {
     GainsExceed,
     // no sheet, or nine and more
     SheetCount,
+}
+
+impl TestRefusal {
+    // The refusal's number, with the length that is exceeded, or 0.
+    pub fn numbers(&self) -> (u32, u32)
+        ensures { λ r. ⌜ r ≡ refusal-numbers (now (self .entry)) ⌝ }
+    {
+        match *self {
+            TestRefusal::DemandExceeds(length) => (8, length),
+            TestRefusal::GainsExceed => (9, 0),
+            TestRefusal::SheetCount => (10, 0),
+        }
+    }
+}
+
+pub impl Refusal for TestRefusal as TestRefusalRefusal {
+    ghost numbered = { λ x. refusal-numbers x .0 };
+
+    fn number(&self) -> u32 {
+        self.numbers().0
+    }
 }

@@ -3,6 +3,7 @@ ghost use Prim.Native.Nat.{_≤_};
 ghost use lib.ListN.{length};
 ghost use Rattle.demand.specs.Rows.{row-bound, row-gain, rows-bound, rows-gain};
 ghost use Rattle.demand.specs.Sheets.{sheet-rows};
+ghost use Rattle.demand.specs.Sporadic.{MostWork};
 
 use crate::row::Row;
 use crate::row_sheet::RowSheet;
@@ -33,9 +34,11 @@ impl RowSheet {
         &self.rows[0..self.len]
     }
 
-    // The most units that the component may demand in a window of `length` ticks.
+    // The most units that the component may demand in a window of `length` ticks: the most that its rows' sporadic tasks can
+    // have both released and due in it.
     pub fn bound_at(&self, length: u32) -> u64
-        ensures { λ r. ⌜ r ≡ rows-bound (sheet-rows (now (self .entry))) length ⌝ }
+        ensures value { λ r. ⌜ r ≡ rows-bound (sheet-rows (now (self .entry))) length ⌝ }
+        ensures most_sporadic_work { λ r. ⌜ MostWork (sheet-rows (now (self .entry))) length r ⌝ }
     {
         let rows = self.rows();
         let mut units = 0;

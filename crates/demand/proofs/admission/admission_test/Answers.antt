@@ -1,8 +1,8 @@
 use mathlib.Core.Path.{_≡_, sym, ap, _∙_}
 use Rattle.std.specs.declared.result.Result.{Result}
 use Rattle.demand.specs.declared.verdict.TestRefusal.{TestRefusal}
-use Rattle.demand.specs.Admission.{verdict-numbers}
 use Rattle.demand.proofs.Admitted.{admitted-fits, fits-admitted, admitted-numbers}
+use Rattle.demand.specs.Verdicts.{verdict-numbers}
 use Rattle.demand.proofs.admission.admission_test.Needs as need
 
 pub returns : need.returns

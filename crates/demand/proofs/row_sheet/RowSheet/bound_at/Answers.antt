@@ -1,7 +1,7 @@
 use mathlib.Core.Path.{_≡_, subst, sym, ap, _∙_}
 use mathlib.Core.Bool.{true}
 use mathlib.Core.List.{List}
-use Prim.Native.Nat.{_+_}
+use Prim.Native.Nat.{ℕ, _+_}
 use native.Mathlib.Omega.{arith}
 use Rattle.std.specs.shelf.Lists.{sumBy}
 use Rattle.std.proofs.shelf.Elements.{all-getD}
@@ -9,6 +9,9 @@ use Rattle.std.proofs.shelf.Lists.{take-all}
 use Rattle.std.proofs.shelf.Sums.{sumBy-more, sumBy-take-le}
 use Rattle.demand.specs.declared.row.Row.{Row}
 use Rattle.demand.specs.Rows.{row-bound, sound-rows}
+use Rattle.demand.specs.Sheets.{sheet-rows}
+use Rattle.demand.specs.Sporadic.{MostWork}
+use Rattle.demand.proofs.Sporadic.{bound-is-most}
 use Rattle.demand.proofs.Rows.{Ranges, sound-all, power-pos, row-bounds-fit}
 use Rattle.demand.proofs.row_sheet.RowSheet.bound_at.Needs as need
 
@@ -31,4 +34,7 @@ loop-row-again c =
 
 pub returns : need.returns
 returns c =
-    c .loop-row .inv ∙ ap (λ (rs : List Row). sumBy (λ r. row-bound r (c .args .length)) rs) (take-all (c .loop-row .row-index) (c .rows-rows .result .now) (omega arith) ∙ c .rows-rows .ensures .value)
+    let rs = sheet-rows (c .args .self .now) in
+    let e = c .loop-row .inv ∙ ap (λ (l : List Row). sumBy (λ r. row-bound r (c .args .length)) l) (take-all (c .loop-row .row-index) (c .rows-rows .result .now) (omega arith) ∙ c .rows-rows .ensures .value) in
+    let m = bound-is-most rs (c .args .length) (sound-all rs (c .args .self .now .sound) .2) in
+    record { value = e; most-sporadic-work = subst (λ (u : ℕ). MostWork rs (c .args .length) u) (sym e) m }
