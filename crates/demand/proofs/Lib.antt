@@ -1,5 +1,6 @@
 pub mod Admitted
 pub mod Faults
+pub mod Filling
 pub mod Records
 pub mod Lawful
 pub mod Rows

@@ -1,16 +1,15 @@
 use mathlib.Core.Path.{_≡_, refl, sym, ap, _∙_}
 use mathlib.Core.Bool.{true, false, cond}
-use mathlib.Core.List.{List, [], _∷_, _++_, map}
+use mathlib.Core.List.{List, map}
 use mathlib.Core.Logic.{_⊎_, ⊎-elim}
 use Prim.Native.Nat.{ℕ, _+_, _*_, _/_, _%_, _<_, _≤_}
 use native.Mathlib.Omega.{arith}
 use lib.Dec.{eqb, leb}
-use lib.ListN.{length, take, set, getD}
+use lib.ListN.{length}
 use Rattle.std.specs.Iters.{counting}
 use Rattle.std.specs.declared.result.Result.{Result}
 use Rattle.std.specs.declared.result.Result.the-variants.{Ok, Err}
-use Rattle.std.proofs.shelf.Counted.{length-map-counting, map-counting-more}
-use Rattle.std.proofs.shelf.Lists.{take-more-set}
+use Rattle.std.proofs.shelf.Counted.{length-map-counting}
 use Rattle.std.proofs.shelf.Tests.{cond-true, cond-false, eq-eqb, ne-eqb, cases-bool, and-right, lt-leb, eqb-true}
 use Rattle.demand.specs.declared.line.Line.{Line}
 use Rattle.demand.specs.declared.line_sheet.LineSheet.{LineSheet}
@@ -29,11 +28,6 @@ use Rattle.demand.proofs.Faults.{then-err, meaning-by}
 
 pub length-rows-in : (fs : List ℕ) → length (rows-in fs) ≡ length fs / 4
 length-rows-in fs = length-map-counting (row-at fs) 0 (length fs / 4)
-
--- one row more is read
-pub rows-more : (fs : List ℕ) (held : List Row) (i : ℕ) → i < length held → take i held ≡ map (row-at fs) (counting 0 i) → take (i + 1) (set held i (row-at fs i)) ≡ map (row-at fs) (counting 0 (i + 1))
-rows-more fs held i h e =
-    take-more-set held i (row-at fs i) h ∙ ap (λ (l : List Row). l ++ row-at fs i ∷ []) e ∙ sym (map-counting-more (row-at fs) 0 i i (omega arith))
 
 pub rows-even : (fs : List ℕ) (start : RecordStart) → length fs % 4 ≡ 0 → rows-record fs start ≡ then (rows-judged (rows-in fs) start) (λ _. Ok (rows (rows-in fs)))
 rows-even fs start e = cond-true (eqb (length fs % 4) 0) _ _ (eq-eqb (length fs % 4) 0 e)
