@@ -35,7 +35,7 @@ records-ended zero bs start h = cond-false (ltb (start .place) (length bs)) _ _ 
 records-ended (suc most) bs start h = cond-false (ltb (start .place) (length bs)) _ _ (le-ltb (start .place) (length bs) h)
 
 -- a record follows, and then the others
-record-first : (most : ℕ) (bs : List ℕ) (start : RecordStart) → start .place < length bs → records-from (most + 1) bs start ≡ then (record-judged bs start) (λ d. then (records-from most bs (next-start bs start)) (λ ds. Ok (d ∷ ds)))
+pub record-first : (most : ℕ) (bs : List ℕ) (start : RecordStart) → start .place < length bs → records-from (most + 1) bs start ≡ then (record-judged bs start) (λ d. then (records-from most bs (next-start bs start)) (λ ds. Ok (d ∷ ds)))
 unfolding records-from
 record-first most bs start h =
     ap (λ n. records-from n bs start) (add-one most) ∙ cond-true (ltb (start .place) (length bs)) _ _ (lt-ltb (start .place) (length bs) h)

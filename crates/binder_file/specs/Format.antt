@@ -4,6 +4,7 @@ use mathlib.Core.List.{List, [], _∷_, map}
 use lib.Dec.{ltb, leb, eqb}
 use lib.ListN.{length, getD}
 use Rattle.std.specs.Iters.{counting}
+use Rattle.std.specs.shelf.Lists.{joined}
 use Rattle.std.specs.declared.result.Result.{Result}
 use Rattle.std.specs.declared.result.Result.the-variants.{Ok, Err}
 use Rattle.demand.specs.declared.fault.RecordStart.{RecordStart}
@@ -11,7 +12,7 @@ use Rattle.demand.specs.declared.fault.FileFault.{FileFault}
 use Rattle.demand.specs.declared.fault.FileFault.the-variants.{CutShort, UnknownKind, WrongLength, RecordCount}
 use Rattle.demand.specs.Faults.{spot, then}
 use Rattle.demand.specs.Sheets.{Declaration}
-use Rattle.demand.specs.Kinds.{rows-record, line-record}
+use Rattle.demand.specs.Kinds.{rows-record, line-record, kind-of, fields-of}
 
 -- a number of two bytes, the low byte first
 abbrev pub word-at : List ℕ → ℕ → ℕ
@@ -66,3 +67,14 @@ records-from (suc most) bs start =
 -- the sheets that a file declares: one to eight
 abbrev pub decode : List ℕ → Result (List Declaration) FileFault
 decode bs = cond (eqb (length bs) 0) (Err (RecordCount (record { index = 0; place = 0 }))) (records-from 8 bs (record { index = 0; place = 0 }))
+
+-- a number as two bytes, the low byte first
+abbrev pub word-bytes : ℕ → List ℕ
+word-bytes w = w % 256 ∷ w / 256 ∷ []
+
+-- the record of a sheet: its length, its kind and its fields
+abbrev pub record-words : Declaration → List ℕ
+record-words d = (2 + 2 * length (fields-of d)) ∷ kind-of d ∷ fields-of d
+
+abbrev pub record-bytes : Declaration → List ℕ
+record-bytes d = joined word-bytes (record-words d)

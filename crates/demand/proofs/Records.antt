@@ -1,15 +1,17 @@
 use mathlib.Core.Path.{_≡_, refl, sym, ap, _∙_}
 use mathlib.Core.Bool.{true, false, cond}
-use mathlib.Core.List.{List, map}
+use mathlib.Core.List.{List, [], _∷_, _++_, map}
 use mathlib.Core.Logic.{_⊎_, ⊎-elim}
-use Prim.Native.Nat.{ℕ, _+_, _*_, _/_, _%_, _<_, _≤_}
+use Prim.Native.Nat.{ℕ, zero, suc, _+_, _*_, _/_, _%_, _<_, _≤_}
 use native.Mathlib.Omega.{arith}
 use lib.Dec.{eqb, leb}
-use lib.ListN.{length}
+use lib.ListN.{length, getD}
 use Rattle.std.specs.Iters.{counting}
+use Rattle.std.specs.shelf.Lists.{joined}
 use Rattle.std.specs.declared.result.Result.{Result}
 use Rattle.std.specs.declared.result.Result.the-variants.{Ok, Err}
-use Rattle.std.proofs.shelf.Counted.{length-map-counting}
+use Rattle.std.proofs.shelf.Counted.{length-map-counting, fill-by-all}
+use Rattle.std.proofs.shelf.Lists.{getD-append-add}
 use Rattle.std.proofs.shelf.Tests.{cond-true, cond-false, eq-eqb, ne-eqb, cases-bool, and-right, lt-leb, eqb-true}
 use Rattle.demand.specs.declared.line.Line.{Line}
 use Rattle.demand.specs.declared.line_sheet.LineSheet.{LineSheet}
@@ -23,7 +25,7 @@ use Rattle.demand.specs.Fields.{from-to}
 use Rattle.demand.specs.Rows.{rows-from, rows-judged}
 use Rattle.demand.specs.Lines.{line-judged}
 use Rattle.demand.specs.Sheets.{Declaration, rows, line, sheet-rows}
-use Rattle.demand.specs.Kinds.{row-at, rows-in, line-in, rows-record, line-record}
+use Rattle.demand.specs.Kinds.{row-at, rows-in, line-in, rows-record, line-record, row-fields-of, fields-of}
 use Rattle.demand.proofs.Faults.{then-err, meaning-by}
 
 pub length-rows-in : (fs : List ℕ) → length (rows-in fs) ≡ length fs / 4
@@ -55,3 +57,40 @@ rows-read part fs start r e p h =
 pub line-read : (x : Line) (fs : List ℕ) (start : RecordStart) (r : Result LineSheet FileFault) → meaning (λ s. s .line) r ≡ then (line-judged x start) (λ _. Ok x) → x ≡ line-in fs → length fs ≡ 4 → meaning (λ s. line (s .line)) r ≡ line-record fs start
 line-read x fs start r e p h =
     meaning-by (λ s. s .line) line r (line-judged x start) x e ∙ ap (λ (l : Line). then (line-judged l start) (λ _. Ok (line l))) p ∙ sym (line-four fs start h)
+
+-- the fields of rows, read back
+length-row-fields : (rs : List Row) → length (joined row-fields-of rs) ≡ 4 * length rs
+length-row-fields [] = refl
+length-row-fields (r ∷ rs) = omega (arith, length-row-fields rs)
+
+abbrev four : ℕ → ℕ → ℕ → ℕ → Row
+four t d c n = record { period = t; deadline = d; budget = c; copies = n }
+
+same-four : (t t′ d d′ c c′ n n′ : ℕ) → t ≡ t′ → d ≡ d′ → c ≡ c′ → n ≡ n′ → four t d c n ≡ four t′ d′ c′ n′
+same-four t t′ d d′ c c′ n n′ p q r s = cc
+
+row-behind : (r : Row) (fs : List ℕ) (k m : ℕ) → k ≡ 4 + m → getD (row-fields-of r ++ fs) k 0 ≡ getD fs m 0
+row-behind r fs k m e = ap (λ x. getD (row-fields-of r ++ fs) x 0) e ∙ getD-append-add (row-fields-of r) fs m 0
+
+row-back : (rs : List Row) (i : ℕ) (d : Row) → i < length rs → row-at (joined row-fields-of rs) i ≡ getD rs i d
+row-back [] i d h = absurd (omega arith)
+row-back (r ∷ rs) zero d h = refl
+row-back (r ∷ rs) (suc i) d h =
+    let fs = joined row-fields-of rs in
+    same-four _ _ _ _ _ _ _ _ (row-behind r fs (4 * suc i) (4 * i) (omega arith)) (row-behind r fs (4 * suc i + 1) (4 * i + 1) (omega arith))
+    (row-behind r fs (4 * suc i + 2) (4 * i + 2) (omega arith)) (row-behind r fs (4 * suc i + 3) (4 * i + 3) (omega arith))
+    ∙ row-back rs i d (omega arith)
+
+rows-back : (rs : List Row) → rows-in (joined row-fields-of rs) ≡ rs
+rows-back rs =
+    let n : length (joined row-fields-of rs) / 4 ≡ length rs = omega (arith, length-row-fields rs) in
+    let d : Row = record { period = 0; deadline = 0; budget = 0; copies = 0 } in
+    ap (λ m. map (row-at (joined row-fields-of rs)) (counting 0 m)) n ∙ sym (fill-by-all (row-at (joined row-fields-of rs)) rs (length rs) d refl (λ k h. sym (row-back rs k d h)))
+
+-- a record of the fields of rows declares those rows, or has their fault
+pub rows-record-back : (rs : List Row) (start : RecordStart) → rows-record (fields-of (rows rs)) start ≡ then (rows-judged rs start) (λ _. Ok (rows rs))
+rows-record-back rs start =
+    rows-even (joined row-fields-of rs) start (omega (arith, length-row-fields rs)) ∙ ap (λ (l : List Row). then (rows-judged l start) (λ _. Ok (rows l))) (rows-back rs)
+
+pub line-record-back : (x : Line) (start : RecordStart) → line-record (fields-of (line x)) start ≡ then (line-judged x start) (λ _. Ok (line x))
+line-record-back x start = refl

@@ -1,9 +1,10 @@
 use Prim.Native.Nat.{ℕ, _+_, _*_, _/_, _%_}
 use mathlib.Core.Bool.{cond}
-use mathlib.Core.List.{List, map}
+use mathlib.Core.List.{List, [], _∷_, map}
 use lib.Dec.{eqb}
 use lib.ListN.{length, getD}
 use Rattle.std.specs.Iters.{counting}
+use Rattle.std.specs.shelf.Lists.{joined}
 use Rattle.std.specs.declared.result.Result.{Result}
 use Rattle.std.specs.declared.result.Result.the-variants.{Ok, Err}
 use Rattle.demand.specs.declared.row.Row.{Row}
@@ -36,3 +37,21 @@ rows-record fs start =
 abbrev pub line-record : List ℕ → RecordStart → Result Declaration FileFault
 line-record fs start =
     cond (eqb (length fs) 4) (then (line-judged (line-in fs) start) (λ _. Ok (line (line-in fs)))) (Err (WrongLength (spot start 0)))
+
+-- the number that names the kind of a sheet in a file
+abbrev pub kind-of : Declaration → ℕ
+kind-of (rows rs) = 1
+kind-of (line x) = 2
+
+-- the fields of a sheet in file order
+abbrev pub row-fields-of : Row → List ℕ
+row-fields-of r = r .period ∷ r .deadline ∷ r .budget ∷ r .copies ∷ []
+
+abbrev pub fields-of : Declaration → List ℕ
+fields-of (rows rs) = joined row-fields-of rs
+fields-of (line x) = x .deadline ∷ x .burst ∷ x .per ∷ x .rate ∷ []
+
+-- the answer to making a sheet of these fields: that to a record of them at `start`
+abbrev pub making-judged : Declaration → RecordStart → Result (Unit {0}) FileFault
+making-judged (rows rs) start = rows-judged rs start
+making-judged (line x) start = line-judged x start
