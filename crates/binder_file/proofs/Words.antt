@@ -58,7 +58,7 @@ module _ (before behind′ : List ℕ) (d : Declaration) (start : RecordStart) (
   fields-back : fields-at (before ++ (record-bytes d ++ behind′)) (start .place + 4) (length (fields-of d)) ≡ fields-of d
   fields-back =
       sym (fill-by-all (λ i. word-at (before ++ (record-bytes d ++ behind′)) (start .place + 4 + 2 * i)) (fields-of d) (length (fields-of d)) 0 refl
-        (λ k h. sym (word-inside before behind′ (record-words d) (start .place + 4 + 2 * k) (suc (suc k)) (omega arith) (omega arith))))
+      (λ k h. sym (word-inside before behind′ (record-words d) (start .place + 4 + 2 * k) (suc (suc k)) (omega arith) (omega arith))))
 
   whole-back : ends-inside (before ++ (record-bytes d ++ behind′)) start ≡ false
   whole-back =

@@ -10,7 +10,6 @@ ghost use Rattle.demand.specs.Kinds.{making-judged};
 ghost use Rattle.demand.specs.declared.fault.FileFault.{FileFault};
 ghost use Rattle.std.specs.Vec.{made};
 ghost use Rattle.std.specs.declared.result.Result.the-variants.{Err};
-
 use crate::record::read_record;
 use crate::record::word;
 use demand::FileFault;
@@ -23,11 +22,18 @@ fn following(bytes: &[u8], start: RecordStart) -> RecordStart
     ensures { λ r. ⌜ r ≡ next-start (now (bytes .entry)) start ⌝ }
 {
     let length = word(bytes, start.place as usize) as u32;
-    RecordStart { index: start.index + 1, place: start.place + 2 + length }
+    RecordStart {
+        index: start.index + 1,
+        place: start.place + 2 + length,
+    }
 }
 
 // Adds the sheet of the record at `start`, unless the file ends there, and says where the next record begins.
-fn read_next(binder: &mut SheetBinder, bytes: &[u8], start: RecordStart) -> Result<RecordStart, FileFault>
+fn read_next(
+    binder: &mut SheetBinder,
+    bytes: &[u8],
+    start: RecordStart,
+) -> Result<RecordStart, FileFault>
     requires { ⌜ length (declarations (now binder)) ≡ start .index ⌝ ∗ ⌜ start .index < 8 ⌝ ∗ ⌜ start .place ≤ 600000 ⌝ }
     ensures rest { λ r. ⌜ ((most : ℕ) → meaning (λ ds. declarations (now (binder .entry)) ++ ds) (records-from (most + 1) (now (bytes .entry)) start) ≡ then r (λ next. meaning (λ ds. declarations (now (binder .exit)) ++ ds) (records-from most (now (bytes .entry)) next))) ⌝ }
     ensures next { λ r. ⌜ made r (λ next. (length (declarations (now (binder .exit))) ≡ next .index) × (next .index ≤ start .index + 1) × (next .place ≤ start .place + 65537)) ⌝ }

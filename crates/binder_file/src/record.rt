@@ -6,7 +6,6 @@ ghost use lib.ListN.{length, take};
 ghost use Rattle.binder_file.specs.Format.{word-at, fields-at, kind-at, ends-inside, whole-fields, body-judged, kind-judged, record-judged};
 ghost use Rattle.demand.specs.Faults.{meaning};
 ghost use Rattle.demand.specs.Sheets.{declared};
-
 use demand::FileFault;
 use demand::LineSheet;
 use demand::LineSheetKind;

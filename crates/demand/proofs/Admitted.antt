@@ -70,10 +70,10 @@ module _ (count : ℕ) (bound : ℕ → ℕ → ℕ) (gain : ℕ → ℕ) (repea
   onward g h (suc n) l k p =
       ⊎-elim (λ (q : l < 8193). h l p (omega arith))
       (λ (q : 8193 ≤ l).
-        let e : (l - 4096) + 4096 ≡ l = omega arith in
-        let r = demand-repeats count bound gain (l - 4096) (λ i. repeats i (l - 4096) (omega arith)) in
-        let a : demand count bound l ≡ demand count bound (l - 4096) + total count gain = ap (demand count bound) (sym e) ∙ r in
-        omega (arith, onward g h n (l - 4096) (omega arith) (omega arith), a))
+      let e : (l - 4096) + 4096 ≡ l = omega arith in
+      let r = demand-repeats count bound gain (l - 4096) (λ i. repeats i (l - 4096) (omega arith)) in
+      let a : demand count bound l ≡ demand count bound (l - 4096) + total count gain = ap (demand count bound) (sym e) ∙ r in
+      omega (arith, onward g h n (l - 4096) (omega arith) (omega arith), a))
       (cases-lt l 8193)
 
   -- the demand after j more stretches of 4,096 ticks
@@ -88,8 +88,8 @@ module _ (count : ℕ) (bound : ℕ → ℕ → ℕ) (gain : ℕ → ℕ) (repea
   gains-fit : ((l : ℕ) → 1 ≤ l → demand count bound l ≤ l) → total count gain ≤ 4096
   gains-fit h =
       ⊎-elim (λ (q : 4096 < total count gain).
-        let m : 4097 * 4097 ≤ 4097 * total count gain = mul-le-mul-left 4097 q in
-        absurd (omega (arith, stretches 4097, h (4096 + 4096 * 4097) (omega arith))))
+      let m : 4097 * 4097 ≤ 4097 * total count gain = mul-le-mul-left 4097 q in
+      absurd (omega (arith, stretches 4097, h (4096 + 4096 * 4097) (omega arith))))
       (λ (q : total count gain ≤ 4096). q)
       (cases-lt 4096 (total count gain))
 

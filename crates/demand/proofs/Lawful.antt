@@ -35,18 +35,22 @@ nothing m = record { starts = refl; climbs = λ l n h. omega arith; repeats = λ
 
 both : (f f′ : ℕ → ℕ) (g g′ m m′ : ℕ) → Lawful f g m → Lawful f′ g′ m′ → Lawful (λ l. f l + f′ l) (g + g′) (m + m′)
 both f f′ g g′ m m′ a b =
-    record { starts = omega (arith, a .starts, b .starts)
-      ; climbs = λ l n h. omega (arith, a .climbs l n h, b .climbs l n h)
-      ; repeats = λ l h. omega (arith, a .repeats l h, b .repeats l h)
-      ; fits = λ l h. omega (arith, a .fits l h, b .fits l h) }
+    record {
+      starts = omega (arith, a .starts, b .starts);
+      climbs = λ l n h. omega (arith, a .climbs l n h, b .climbs l n h);
+      repeats = λ l h. omega (arith, a .repeats l h, b .repeats l h);
+      fits = λ l h. omega (arith, a .fits l h, b .fits l h);
+    }
 
 -- the same bound by other words
 like : (f f′ : ℕ → ℕ) (g g′ m m′ : ℕ) → ((l : ℕ) → f l ≡ f′ l) → g ≡ g′ → m ≤ m′ → Lawful f g m → Lawful f′ g′ m′
 like f f′ g g′ m m′ e p h a =
-    record { starts = omega (arith, e 0, a .starts)
-      ; climbs = λ l n k. omega (arith, e l, e n, a .climbs l n k)
-      ; repeats = λ l k. omega (arith, e (l + 4096), e l, a .repeats l k)
-      ; fits = λ l k. omega (arith, e l, a .fits l k) }
+    record {
+      starts = omega (arith, e 0, a .starts);
+      climbs = λ l n k. omega (arith, e l, e n, a .climbs l n k);
+      repeats = λ l k. omega (arith, e (l + 4096), e l, a .repeats l k);
+      fits = λ l k. omega (arith, e l, a .fits l k);
+    }
 
 div-mono : (x y k : ℕ) → 0 < k → x ≤ y → x / k ≤ y / k
 div-mono x y k p h = le-div (x / k) y k p (omega (arith, div-mul-le-self x k))
@@ -65,10 +69,12 @@ late-climbs d l n h false false e f k c = c
 
 late-lawful : (d : ℕ) (h : ℕ → ℕ) (g m : ℕ) → 1 ≤ d → d ≤ 4096 → ((l n : ℕ) → l ≤ n → h l ≤ h n) → ((l : ℕ) → d ≤ l → h (l + 4096) ≡ h l + g) → ((l : ℕ) → l < 2 ^ 32 → h l ≤ m) → Lawful (late d h) g m
 late-lawful d h g m low high up more most =
-    record { starts = cond-true (ltb 0 d) 0 (h 0) (lt-ltb 0 d low)
-      ; climbs = λ l n k. late-climbs d l n h (ltb l d) (ltb n d) refl refl k (up l n k)
-      ; repeats = λ l k. omega (arith, late-on d (l + 4096) h (omega arith), late-on d l h (omega arith), more l (omega arith))
-      ; fits = λ l k. cond-both (ltb l d) 0 (h l) (λ x. x ≤ m) (λ _. omega arith) (λ _. most l k) }
+    record {
+      starts = cond-true (ltb 0 d) 0 (h 0) (lt-ltb 0 d low);
+      climbs = λ l n k. late-climbs d l n h (ltb l d) (ltb n d) refl refl k (up l n k);
+      repeats = λ l k. omega (arith, late-on d (l + 4096) h (omega arith), late-on d l h (omega arith), more l (omega arith));
+      fits = λ l k. cond-both (ltb l d) 0 (h l) (λ x. x ≤ m) (λ _. omega arith) (λ _. most l k);
+    }
 
 -- a power of two divides 4,096
 power-divides : (q : ℕ) → (k : ℕ) × (k ≤ 12) × (q ≡ 2 ^ k) → q * (4096 / q) ≡ 4096
@@ -95,10 +101,10 @@ row-lawful r a =
     late-lawful d (λ l. c * ((l - d) / t + 1)) (row-gain r) (2 ^ 48) (a .deadline-low) (a .deadline-high)
     (λ l n k. mul-le-mul-left c (omega (arith, div-mono (l - d) (n - d) t p (omega arith))))
     (λ l k.
-      let x : (l + 4096) - d ≡ (l - d) + 4096 = omega arith in
-      let y : ((l + 4096) - d) / t ≡ (l - d) / t + 4096 / t = ap (λ n. n / t) (x ∙ ap (λ n. (l - d) + n) (sym e)) ∙ add-mul-div-left (l - d) (4096 / t) p in
-      let z : c * (((l + 4096) - d) / t + 1) ≡ c * ((l - d) / t + 1) + c * (4096 / t) = ap (λ n. c * n) (omega (arith, y)) ∙ mul-add c ((l - d) / t + 1) (4096 / t) in
-      omega (arith, z, gain-whole c t p e))
+    let x : (l + 4096) - d ≡ (l - d) + 4096 = omega arith in
+    let y : ((l + 4096) - d) / t ≡ (l - d) / t + 4096 / t = ap (λ n. n / t) (x ∙ ap (λ n. (l - d) + n) (sym e)) ∙ add-mul-div-left (l - d) (4096 / t) p in
+    let z : c * (((l + 4096) - d) / t + 1) ≡ c * ((l - d) / t + 1) + c * (4096 / t) = ap (λ n. c * n) (omega (arith, y)) ∙ mul-add c ((l - d) / t + 1) (4096 / t) in
+    omega (arith, z, gain-whole c t p e))
     (λ l k. row-steps-fit r l k a)
 
 rows-lawful : (rs : List Row) → All Ranges rs → Lawful (λ l. sumBy (λ r. row-bound r l) rs) (sumBy row-gain rs) (length rs * 2 ^ 48)
@@ -135,9 +141,9 @@ line-lawful x a =
     late-lawful d (λ l. x .burst + c * (l - d) / q) (line-gain x) (2 ^ 52) (a .deadline-low) (a .deadline-high)
     (λ l n k. omega (arith, div-mono (c * (l - d)) (c * (n - d)) q p (mul-le-mul-left c (omega arith))))
     (λ l k.
-      let y : (l + 4096) - d ≡ (l - d) + 4096 = omega arith in
-      let z : c * ((l + 4096) - d) / q ≡ c * (l - d) / q + c * (4096 / q) = ap (λ n. n / q) (ap (λ n. c * n) y ∙ mul-add c (l - d) 4096 ∙ ap (λ n. c * (l - d) + n) (whole c q e)) ∙ add-mul-div-left (c * (l - d)) (c * (4096 / q)) p in
-      omega (arith, z, gain-whole c q p e))
+    let y : (l + 4096) - d ≡ (l - d) + 4096 = omega arith in
+    let z : c * ((l + 4096) - d) / q ≡ c * (l - d) / q + c * (4096 / q) = ap (λ n. n / q) (ap (λ n. c * n) y ∙ mul-add c (l - d) 4096 ∙ ap (λ n. c * (l - d) + n) (whole c q e)) ∙ add-mul-div-left (c * (l - d)) (c * (4096 / q)) p in
+    omega (arith, z, gain-whole c q p e))
     (λ l k. omega (arith, div-le-of-le-mul q (mul-le-mul-right (l - d) (a .rate-high)), a .burst-high))
 
 sheet-lawful : (s : Sheet) → Lawful (bound-of (declared s)) (gain-of (declared s)) (2 ^ 52)

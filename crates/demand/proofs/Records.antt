@@ -42,8 +42,8 @@ rows-many fs start h =
 pub rows-refused : (fs : List ℕ) (start : RecordStart) → (length fs % 4 ≡ 0 → ⊥) ⊎ (8 < length fs / 4) → rows-record fs start ≡ Err (WrongLength (spot start 0))
 rows-refused fs start h =
     ⊎-elim (λ (t : eqb (length fs % 4) 0 ≡ true).
-      ⊎-elim (λ (p : length fs % 4 ≡ 0 → ⊥). absurd (p (eqb-true (length fs % 4) 0 t)))
-      (λ (q : 8 < length fs / 4). rows-even fs start (eqb-true (length fs % 4) 0 t) ∙ then-err _ _ _ (rows-many fs start q)) h)
+    ⊎-elim (λ (p : length fs % 4 ≡ 0 → ⊥). absurd (p (eqb-true (length fs % 4) 0 t)))
+    (λ (q : 8 < length fs / 4). rows-even fs start (eqb-true (length fs % 4) 0 t) ∙ then-err _ _ _ (rows-many fs start q)) h)
     (λ (f : eqb (length fs % 4) 0 ≡ false). cond-false (eqb (length fs % 4) 0) _ _ f)
     (cases-bool (eqb (length fs % 4) 0))
 

@@ -75,8 +75,8 @@ task-most : (r : Row) (l s : ℕ) (rel : List ℕ) → Ranges r → Sporadic (r 
 task-most r l s rel g h =
     ⊎-elim (λ (z : jobs-within (r .deadline) s (s + l) rel ≡ 0). omega arith)
     (λ (q : (k : ℕ) × (jobs-within (r .deadline) s (s + l) rel ≡ suc k) × (0 + k * r .period + r .deadline ≤ s + l) × (s + k * r .period + r .deadline ≤ s + l)).
-      let most = le-div (q .0) (l - r .deadline) (r .period) (power-pos (g .power)) (omega (arith, q .3)) in
-      omega (arith, q .1, most, steps-on r l (omega (arith, q .3))))
+    let most = le-div (q .0) (l - r .deadline) (r .period) (power-pos (g .power)) (omega (arith, q .3)) in
+    omega (arith, q .1, most, steps-on r l (omega (arith, q .3))))
     (spans (r .period) (r .deadline) 0 s (s + l) rel h (from-zero rel))
 
 row-most : (r : Row) (l s : ℕ) (b : Behaviour r) → Ranges r → r .budget * sumBy (jobs-within (r .deadline) s (s + l)) (b .tasks) ≤ row-bound r l
@@ -116,9 +116,9 @@ task-attains : (r : Row) (l s : ℕ) → jobs-within (r .deadline) s (s + l) (de
 task-attains r l s =
     ⊎-elim (λ (h : l < r .deadline). rw (steps-off r l h) refl)
     (λ (h : r .deadline ≤ l).
-      let e = steps-on r l h in
-      let m = div-mul-le-self (l - r .deadline) (r .period) in
-      dense-count (r .period) (r .deadline) s (s + l) s (steps r l) (omega arith) (rw e (omega (arith, m, suc-mul ((l - r .deadline) / r .period) (r .period)))))
+    let e = steps-on r l h in
+    let m = div-mul-le-self (l - r .deadline) (r .period) in
+    dense-count (r .period) (r .deadline) s (s + l) s (steps r l) (omega arith) (rw e (omega (arith, m, suc-mul ((l - r .deadline) / r .period) (r .period)))))
     (cases-lt l (r .deadline))
 
 row-attains : (r : Row) (l s : ℕ) → (b : Behaviour r) × (r .budget * sumBy (jobs-within (r .deadline) s (s + l)) (b .tasks) ≡ row-bound r l)

@@ -30,8 +30,8 @@ abbrev pub before : Row → Row → Bool
 before r s =
     ltb (r .deadline) (s .deadline)
     || (eqb (r .deadline) (s .deadline)
-      && (ltb (r .period) (s .period)
-        || (eqb (r .period) (s .period) && ltb (r .budget) (s .budget))))
+    && (ltb (r .period) (s .period)
+    || (eqb (r .period) (s .period) && ltb (r .budget) (s .budget))))
 
 -- a row that is refused unless it comes after the last one, if any
 abbrev pub in-order : Option Row → Row → Location → Result (Unit {0}) FileFault

@@ -1,7 +1,6 @@
 ghost use mathlib.Core.Path.{_≡_};
 ghost use Rattle.demand.specs.Admission.{total, demand, admission, DemandFits, Tightest};
 ghost use Rattle.demand.specs.Verdicts.{verdict-numbers};
-
 use crate::binder::Binder;
 use crate::verdict::TestRefusal;
 

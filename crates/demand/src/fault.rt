@@ -1,6 +1,5 @@
 ghost use mathlib.Core.Path.{_≡_};
 ghost use Rattle.demand.specs.Faults.{spot, fault-numbers};
-
 use crate::refusal::Refusal;
 
 // Where a record of a binder file begins: its index, counted from 0, and its byte offset in the file.
@@ -42,7 +41,10 @@ impl RecordStart {
     pub fn at(&self, offset: u32) -> Location
         ensures { λ r. ⌜ r ≡ spot (now (self .entry)) offset ⌝ }
     {
-        Location { index: self.index, place: self.place as u64 + offset as u64 }
+        Location {
+            index: self.index,
+            place: self.place as u64 + offset as u64,
+        }
     }
 }
 

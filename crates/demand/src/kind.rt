@@ -9,7 +9,6 @@ ghost use Rattle.demand.specs.declared.fault.FileFault.the-variants.{WrongLeng
 ghost use Rattle.demand.specs.declared.fault.RecordStart.{RecordStart};
 ghost use Rattle.std.specs.declared.result.Result.{Result};
 ghost use Rattle.std.specs.declared.result.Result.the-variants.{Err};
-
 use crate::fault::FileFault;
 use crate::fault::RecordStart;
 

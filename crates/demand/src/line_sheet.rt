@@ -18,5 +18,12 @@ pub struct LineSheet {
 
 impl LineSheet {
     // The built-in sheet: one unit every 4,096 ticks, none before they have passed.
-    pub const BUILT_IN: LineSheet = LineSheet { line: Line { deadline: 4096, burst: 0, per: 4096, rate: 1 } };
+    pub const BUILT_IN: LineSheet = LineSheet {
+        line: Line {
+            deadline: 4096,
+            burst: 0,
+            per: 4096,
+            rate: 1,
+        },
+    };
 }

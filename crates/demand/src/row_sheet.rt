@@ -22,5 +22,13 @@ pub struct RowSheet {
 
 impl RowSheet {
     // The built-in sheet: one unit every 4,096 ticks, due at the end of them.
-    pub const BUILT_IN: RowSheet = RowSheet { rows: [Row { period: 4096, deadline: 4096, budget: 1, copies: 1 }; 8], len: 1 };
+    pub const BUILT_IN: RowSheet = RowSheet {
+        rows: [Row {
+            period: 4096,
+            deadline: 4096,
+            budget: 1,
+            copies: 1,
+        }; 8],
+        len: 1,
+    };
 }

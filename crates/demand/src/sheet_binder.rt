@@ -2,7 +2,7 @@ ghost use mathlib.Core.Path.{_≡_};
 ghost use Prim.Native.Nat.{_≤_};
 ghost use lib.ListN.{length};
 
-mod asking;
+pub(crate) mod asking;
 mod filling;
 
 use crate::sheet::Sheet;

@@ -1,6 +1,5 @@
 ghost use Prim.Native.Nat.{_+_, min};
 ghost use Rattle.demand.specs.Sides.{side-count, side-value};
-
 use crate::binder::Binder;
 
 // Two binders as one: the components of the first, then those of the second.

@@ -1,6 +1,5 @@
 ghost use mathlib.Core.Path.{_≡_};
 ghost use Rattle.demand.specs.Verdicts.{refusal-numbers};
-
 use crate::refusal::Refusal;
 
 // Why the admission test refuses a binder.

@@ -1,6 +1,5 @@
 ghost use mathlib.Core.List.{[], _∷_};
 ghost use Rattle.demand.specs.Sheets.{line, component-bound, component-gain};
-
 use crate::binder::Binder;
 use crate::line_sheet::LineSheet;
 

@@ -1,6 +1,5 @@
 ghost use mathlib.Core.Path.{_≡_};
 ghost use Rattle.demand.specs.Lines.{line-bound, line-gain};
-
 use crate::line::Line;
 use crate::line_sheet::LineSheet;
 
@@ -20,7 +19,8 @@ impl LineSheet {
         if length < line.deadline as u32 {
             return 0;
         }
-        line.burst as u64 + line.rate as u64 * (length as u64 - line.deadline as u64) / line.per as u64
+        line.burst as u64
+            + line.rate as u64 * (length as u64 - line.deadline as u64) / line.per as u64
     }
 
     // The units that 4,096 further ticks add to the bound.

@@ -3,7 +3,6 @@ ghost use Rattle.demand.specs.Faults.{then, meaning};
 ghost use Rattle.demand.specs.Lines.{line-judged};
 ghost use Rattle.demand.specs.declared.fault.FileFault.{FileFault};
 ghost use Rattle.std.specs.declared.result.Result.the-variants.{Ok, Err};
-
 use crate::fault::FileFault;
 use crate::fault::RecordStart;
 use crate::fields::accept;

@@ -1,12 +1,11 @@
 ghost use Rattle.demand.specs.Kinds.{line-record};
 ghost use Rattle.demand.specs.Sheets.{line};
-
 use crate::fault::FileFault;
 use crate::fault::RecordStart;
 use crate::kind::SheetKind;
 use crate::line::Line;
-use crate::line_sheet::making::sheet_of_line;
 use crate::line_sheet::LineSheet;
+use crate::line_sheet::making::sheet_of_line;
 
 pub impl SheetKind for LineSheet as LineSheetKind {
     const KIND: u16 = 2;
@@ -25,6 +24,14 @@ pub impl SheetKind for LineSheet as LineSheetKind {
         let [deadline, burst, per, rate] = fields else {
             return Err(FileFault::WrongLength(start.at(0)));
         };
-        sheet_of_line(Line { deadline: *deadline, burst: *burst, per: *per, rate: *rate }, start)
+        sheet_of_line(
+            Line {
+                deadline: *deadline,
+                burst: *burst,
+                per: *per,
+                rate: *rate,
+            },
+            start,
+        )
     }
 }

@@ -1,6 +1,5 @@
 ghost use mathlib.Core.List.{[], _∷_};
 ghost use Rattle.demand.specs.Sheets.{rows, sheet-rows, component-bound, component-gain};
-
 use crate::binder::Binder;
 use crate::row_sheet::RowSheet;
 

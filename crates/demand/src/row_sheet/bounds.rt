@@ -4,7 +4,6 @@ ghost use lib.ListN.{length};
 ghost use Rattle.demand.specs.Rows.{row-bound, row-gain, rows-bound, rows-gain};
 ghost use Rattle.demand.specs.Sheets.{sheet-rows};
 ghost use Rattle.demand.specs.Sporadic.{MostWork};
-
 use crate::row::Row;
 use crate::row_sheet::RowSheet;
 
@@ -15,7 +14,9 @@ fn row_bound(row: &Row, length: u32) -> u64
     if length < row.deadline as u32 {
         return 0;
     }
-    row.copies as u64 * row.budget as u64 * ((length as u64 - row.deadline as u64) / row.period as u64 + 1)
+    row.copies as u64
+        * row.budget as u64
+        * ((length as u64 - row.deadline as u64) / row.period as u64 + 1)
 }
 
 fn row_gain(row: &Row) -> u64

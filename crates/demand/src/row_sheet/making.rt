@@ -5,7 +5,6 @@ ghost use Rattle.demand.specs.Faults.{then, meaning, value-or};
 ghost use Rattle.demand.specs.Sheets.{sheet-rows};
 ghost use Rattle.std.specs.declared.result.Result.the-variants.{Ok, Err};
 ghost use Rattle.demand.specs.declared.fault.FileFault.{FileFault};
-
 use crate::fault::FileFault;
 use crate::fault::Location;
 use crate::fault::RecordStart;

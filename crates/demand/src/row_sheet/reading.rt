@@ -3,13 +3,12 @@ ghost use Prim.Native.Nat.{_/_, _≤_};
 ghost use lib.ListN.{length, take};
 ghost use Rattle.demand.specs.Kinds.{rows-in, rows-record};
 ghost use Rattle.demand.specs.Sheets.{rows, sheet-rows};
-
 use crate::fault::FileFault;
 use crate::fault::RecordStart;
 use crate::kind::SheetKind;
 use crate::row::Row;
-use crate::row_sheet::making::sheet_of_rows;
 use crate::row_sheet::RowSheet;
+use crate::row_sheet::making::sheet_of_rows;
 
 // The rows of these fields, in the first slots.
 fn rows_of(fields: &[u16]) -> [Row; 8]

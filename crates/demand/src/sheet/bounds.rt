@@ -1,6 +1,5 @@
 ghost use mathlib.Core.Path.{_≡_};
 ghost use Rattle.demand.specs.Sheets.{declared, bound-of, gain-of};
-
 use crate::sheet::Sheet;
 
 impl Sheet {

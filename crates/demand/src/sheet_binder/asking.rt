@@ -1,6 +1,5 @@
 ghost use lib.ListN.{length};
 ghost use Rattle.demand.specs.Sheets.{declarations, component-bound, component-gain};
-
 use crate::binder::Binder;
 use crate::sheet_binder::SheetBinder;
 

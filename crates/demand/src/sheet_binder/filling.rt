@@ -5,7 +5,6 @@ ghost use lib.ListN.{length};
 ghost use Rattle.demand.specs.Sheets.{declared, sheets-of, declarations};
 ghost use Rattle.demand.specs.declared.fault.FileFault.the-variants.{RecordCount};
 ghost use Rattle.std.specs.declared.result.Result.the-variants.{Ok, Err};
-
 use crate::fault::FileFault;
 use crate::fault::Location;
 use crate::row_sheet::RowSheet;
@@ -17,7 +16,10 @@ impl SheetBinder {
     pub fn new() -> SheetBinder
         ensures { λ r. ⌜ declarations r ≡ [] ⌝ }
     {
-        SheetBinder { sheets: [Sheet::Rows(RowSheet::BUILT_IN); 8], len: 0 }
+        SheetBinder {
+            sheets: [Sheet::Rows(RowSheet::BUILT_IN); 8],
+            len: 0,
+        }
     }
 
     // The sheets, in order.

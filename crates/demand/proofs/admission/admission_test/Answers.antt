@@ -9,7 +9,10 @@ pub returns : need.returns
 returns g c =
     let b = c .args .binder .now in
     let e = c .verdict-numbers .ensures ∙ ap (λ (r : Result (Unit {0}) TestRefusal). verdict-numbers r) (c .admit .ensures) in
-    record { verdict = e
-      ; admitted-exactly-when-demand-fits =
-          ( (λ z. admitted-fits (g .B·Binder .count b) (g .B·Binder .bound b) (g .B·Binder .gain b) (g .B·Binder·met .repeats b) (admitted-numbers _ (sym e ∙ z)))
-          , (λ f. e ∙ ap (λ (r : Result (Unit {0}) TestRefusal). verdict-numbers r) (fits-admitted (g .B·Binder .count b) (g .B·Binder .bound b) (g .B·Binder .gain b) (g .B·Binder·met .repeats b) f)) ) }
+    record {
+      verdict = e;
+      admitted-exactly-when-demand-fits = (
+        (λ z. admitted-fits (g .B·Binder .count b) (g .B·Binder .bound b) (g .B·Binder .gain b) (g .B·Binder·met .repeats b) (admitted-numbers _ (sym e ∙ z))),
+        (λ f. e ∙ ap (λ (r : Result (Unit {0}) TestRefusal). verdict-numbers r) (fits-admitted (g .B·Binder .count b) (g .B·Binder .bound b) (g .B·Binder .gain b) (g .B·Binder·met .repeats b) f)),
+      );
+    }
