@@ -14,9 +14,10 @@ loop-sheet-again c =
     let b = c .in-Continue-push-str .ensures tt .bytes in
     let lines = c .deref .ensures ∙ c .in-Continue-lines .ensures tt in
     let here = c .sheet-item .is ∙ ap (λ (k : ℕ). getD (c .args .sheets .now) k (c .sheet-item .result)) (sym (c .loop-sheet .inv .0)) in
-    let m = sheets-more (c .args .sheets .now) (c .loop-sheet .index) (c .sheet-item .result) (string-bytes (c .loop-sheet .text)) (c .deref .result .now) (omega arith) here lines in
-    ( omega arith
-    , c .loop-sheet .inv .1 ∙ m ∙ ap (λ (l : List ℕ). l ++ sheets-text (c .loop-sheet .index + 1) (map declared (drop (c .loop-sheet .index + 1) (c .args .sheets .now)))) (sym b) )
+    let m = sheets-more (c .args .sheets .now) (c .loop-sheet .index) (c .sheet-item .result) (string-bytes (c .loop-sheet .text)) (c .deref .result .now) (omega arith) here lines in (
+      omega arith,
+      c .loop-sheet .inv .1 ∙ m ∙ ap (λ (l : List ℕ). l ++ sheets-text (c .loop-sheet .index + 1) (map declared (drop (c .loop-sheet .index + 1) (c .args .sheets .now)))) (sym b),
+    )
 
 pub returns : need.returns
 returns c = sym (c .loop-sheet .inv .1 ∙ sheets-done (c .args .sheets .now) (c .loop-sheet .index) _ (omega arith))
