@@ -5,17 +5,18 @@ use Prim.Native.Nat.{ℕ, zero, suc, _+_, _-_, _*_, _/_, _%_, _<_, _≤_}
 use native.Mathlib.Nat.{add-assoc, add-zero}
 use native.Mathlib.Omega.{arith}
 use lib.Dec.{ltb, leb, eqb}
-use lib.ListN.{length, getD}
+use lib.ListN.{length, getD, take, drop}
 use Rattle.std.specs.Iters.{counting}
 use Rattle.std.specs.shelf.Lists.{joined}
 use Rattle.std.specs.declared.result.Result.{Result}
 use Rattle.std.specs.declared.result.Result.the-variants.{Ok, Err}
 use Rattle.std.proofs.shelf.Counted.{fill-by-all}
-use Rattle.std.proofs.shelf.Lists.{getD-append-add, getD-append-left, length-append, append-nil}
+use Rattle.std.proofs.shelf.Lists.{getD-append-add, getD-append-left, length-append, append-nil, append-assoc, take-at}
 use Rattle.std.proofs.shelf.Tests.{cond-true, cond-false, and-from, or-from, le-leb, eq-eqb, le-ltb, ne-eqb}
 use Rattle.demand.specs.declared.fault.RecordStart.{RecordStart}
 use Rattle.demand.specs.declared.fault.FileFault.{FileFault}
 use Rattle.demand.specs.Faults.{then, meaning}
+use Rattle.demand.specs.Over.{over}
 use Rattle.demand.specs.Sheets.{Declaration, rows, line}
 use Rattle.demand.specs.Kinds.{rows-record, line-record, kind-of, fields-of, making-judged}
 use Rattle.demand.proofs.Records.{rows-record-back, line-record-back}
@@ -119,3 +120,15 @@ only-answer (Err f) ds = refl
 
 pub alone-as-made : (bs : List ℕ) (d : Declaration) → bs ≡ record-bytes d → meaning (λ _. tt {0}) (decode bs) ≡ making-judged d first
 alone-as-made bs d e = ap (λ (r : Result (List Declaration) FileFault). meaning (λ _. tt {0}) r) (one-record bs d e) ∙ only-answer (making-judged d first) (d ∷ [])
+
+-- the record of a sheet: its head, and then its fields
+pub record-parts : (first : List ℕ) (d : Declaration) (count tag : ℕ) (part : List ℕ) → count ≡ length (fields-of d) → kind-of d ≡ tag → part ≡ fields-of d → (first ++ joined word-bytes ((2 + 2 * count) ∷ tag ∷ [])) ++ joined word-bytes part ≡ first ++ record-bytes d
+record-parts first d count tag part n k p =
+    append-assoc first (joined word-bytes ((2 + 2 * count) ∷ tag ∷ [])) (joined word-bytes part)
+    ∙ ap (λ (l : List ℕ). first ++ l) (ap (λ (m : ℕ). joined word-bytes ((2 + 2 * m) ∷ tag ∷ []) ++ joined word-bytes part) n ∙ ap (λ (m : ℕ). joined word-bytes ((2 + 2 * length (fields-of d)) ∷ m ∷ []) ++ joined word-bytes part) (sym k) ∙ ap (λ (l : List ℕ). joined word-bytes ((2 + 2 * length (fields-of d)) ∷ kind-of d ∷ []) ++ joined word-bytes l) p)
+
+-- the fields that were put into slots
+pub fields-put : (slots old fs : List ℕ) (count : ℕ) → slots ≡ over fs old → count ≡ length fs → take (count - 0) slots ≡ fs
+fields-put slots old fs count e n =
+    let z : count - 0 ≡ count = omega arith in
+    ap (λ (m : ℕ). take m slots) z ∙ ap (λ (l : List ℕ). take count l) e ∙ take-at fs (drop (length fs) old) count (sym n)

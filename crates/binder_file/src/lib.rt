@@ -1,6 +1,11 @@
-// The binder file: its bytes, and the sheets that they declare.
+// The binder file: reading its bytes into a binder, and writing a binder as bytes.
 
 mod reading;
 mod record;
+mod refusal;
+mod writing;
 
 pub use reading::read_file;
+pub use refusal::WriteRefusal;
+pub use refusal::WriteRefusalRefusal;
+pub use writing::write_file;

@@ -20,7 +20,7 @@ use Rattle.demand.specs.Fields.{power-of-two, from-to}
 use Rattle.demand.specs.Rows.{row-bound, row-gain}
 use Rattle.demand.specs.Lines.{line-bound, line-gain, line-judged, sound-line}
 use Rattle.demand.specs.Sheets.{sheet-rows, Declaration, declared, bound-of, gain-of, component-bound, component-gain}
-use Rattle.demand.proofs.Rows.{Ranges, power-pos, power-from, range-from, sound-all, four-fields, row-steps-fit}
+use Rattle.demand.proofs.Rows.{Ranges, power-pos, power-from, range-from, sound-all, line-ok, row-steps-fit}
 
 -- the laws of one component's bound f with the gain g, m being the most at lengths of 32 bits
 pub record Lawful (f : ℕ → ℕ) (g m : ℕ) : Type 0 where
@@ -124,7 +124,7 @@ record Straightness (x : Line) : Type 0 where
 
 straight-from : (x : Line) → sound-line x ≡ true → Straightness x
 straight-from x h =
-    let e = sym (four-fields (from-to 1 4096 (x .deadline)) (leb (x .burst) 4096) (power-of-two (x .per)) (leb (x .rate) (x .per)) _ _ _ _) ∙ h in
+    let e = sym (line-ok x (record { index = 0; place = 0 })) ∙ h in
     let a = and-parts (from-to 1 4096 (x .deadline)) (leb (x .burst) 4096 && (power-of-two (x .per) && leb (x .rate) (x .per))) e in
     let b = and-parts (leb (x .burst) 4096) (power-of-two (x .per) && leb (x .rate) (x .per)) (a .1) in
     let c = and-parts (power-of-two (x .per)) (leb (x .rate) (x .per)) (b .1) in

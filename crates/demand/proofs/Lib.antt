@@ -1,6 +1,7 @@
 pub mod Admitted
 pub mod Faults
 pub mod Filling
+pub mod Overwriting
 pub mod Records
 pub mod Lawful
 pub mod Rows

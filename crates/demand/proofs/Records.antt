@@ -7,12 +7,13 @@ use native.Mathlib.Omega.{arith}
 use lib.Dec.{eqb, leb}
 use lib.ListN.{length, getD}
 use Rattle.std.specs.Iters.{counting}
+use Rattle.std.specs.Results.{isOk}
 use Rattle.std.specs.shelf.Lists.{joined}
 use Rattle.std.specs.declared.result.Result.{Result}
 use Rattle.std.specs.declared.result.Result.the-variants.{Ok, Err}
 use Rattle.std.proofs.shelf.Counted.{length-map-counting, fill-by-all}
 use Rattle.std.proofs.shelf.Lists.{getD-append-add}
-use Rattle.std.proofs.shelf.Tests.{cond-true, cond-false, eq-eqb, ne-eqb, cases-bool, and-right, lt-leb, eqb-true}
+use Rattle.std.proofs.shelf.Tests.{cond-true, cond-false, eq-eqb, ne-eqb, cases-bool, and-right, lt-leb, eqb-true, true≢false}
 use Rattle.demand.specs.declared.line.Line.{Line}
 use Rattle.demand.specs.declared.line_sheet.LineSheet.{LineSheet}
 use Rattle.demand.specs.declared.row.Row.{Row}
@@ -24,8 +25,11 @@ use Rattle.demand.specs.Faults.{spot, then, meaning}
 use Rattle.demand.specs.Fields.{from-to}
 use Rattle.demand.specs.Rows.{rows-from, rows-judged}
 use Rattle.demand.specs.Lines.{line-judged}
-use Rattle.demand.specs.Sheets.{Declaration, rows, line, sheet-rows}
-use Rattle.demand.specs.Kinds.{row-at, rows-in, line-in, rows-record, line-record, row-fields-of, fields-of}
+use Rattle.demand.specs.declared.sheet.Sheet.{Sheet}
+use Rattle.demand.specs.declared.sheet.Sheet.the-variants.{Rows, Line as Straight}
+use Rattle.demand.specs.Sheets.{Declaration, rows, line, sheet-rows, declared}
+use Rattle.demand.proofs.Rows.{sound-all, judged-anywhere, line-anywhere}
+use Rattle.demand.specs.Kinds.{row-at, rows-in, line-in, rows-record, line-record, row-fields-of, fields-of, making-judged}
 use Rattle.demand.proofs.Faults.{then-err, meaning-by}
 
 pub length-rows-in : (fs : List ℕ) → length (rows-in fs) ≡ length fs / 4
@@ -59,7 +63,7 @@ line-read x fs start r e p h =
     meaning-by (λ s. s .line) line r (line-judged x start) x e ∙ ap (λ (l : Line). then (line-judged l start) (λ _. Ok (line l))) p ∙ sym (line-four fs start h)
 
 -- the fields of rows, read back
-length-row-fields : (rs : List Row) → length (joined row-fields-of rs) ≡ 4 * length rs
+pub length-row-fields : (rs : List Row) → length (joined row-fields-of rs) ≡ 4 * length rs
 length-row-fields [] = refl
 length-row-fields (r ∷ rs) = omega (arith, length-row-fields rs)
 
@@ -94,3 +98,17 @@ rows-record-back rs start =
 
 pub line-record-back : (x : Line) (start : RecordStart) → line-record (fields-of (line x)) start ≡ then (line-judged x start) (λ _. Ok (line x))
 line-record-back x start = refl
+
+-- no sheet has more than 40 fields
+pub sheet-slots : (s : Sheet) → length (fields-of (declared s)) ≤ 40
+sheet-slots (Rows s) = omega (arith, sound-all (sheet-rows s) (s .sound) .1, length-row-fields (sheet-rows s))
+sheet-slots (Straight s) = omega arith
+
+-- a sheet that exists is accepted, wherever its record begins
+ok-unit : (r : Result (Unit {0}) FileFault) → isOk r ≡ true → r ≡ Ok tt
+ok-unit (Ok tt) e = refl
+ok-unit (Err f) e = absurd (true≢false (sym e))
+
+pub sheet-accepted : (s : Sheet) (start : RecordStart) → making-judged (declared s) start ≡ Ok tt
+sheet-accepted (Rows s) start = ok-unit (rows-judged (sheet-rows s) start) (judged-anywhere (sheet-rows s) start ∙ s .sound)
+sheet-accepted (Straight s) start = ok-unit (line-judged (s .line) start) (line-anywhere (s .line) start ∙ s .sound)

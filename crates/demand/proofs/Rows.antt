@@ -19,6 +19,7 @@ use Rattle.std.specs.declared.result.Result.{Result}
 use Rattle.std.specs.declared.result.Result.the-variants.{Ok, Err}
 use Rattle.std.specs.declared.option.Option.{Option}
 use Rattle.std.specs.declared.option.Option.the-variants.{Some, None}
+use Rattle.demand.specs.declared.line.Line.{Line}
 use Rattle.demand.specs.declared.row.Row.{Row}
 use Rattle.demand.specs.declared.fault.Location.{Location}
 use Rattle.demand.specs.declared.fault.RecordStart.{RecordStart}
@@ -27,6 +28,7 @@ use Rattle.demand.specs.declared.fault.FileFault.the-variants.{OutOfOrder, Wro
 use Rattle.demand.specs.Faults.{spot, then}
 use Rattle.demand.specs.Fields.{power-up-to, power-of-two, from-to, field}
 use Rattle.demand.specs.Rows.{row-fields, before, in-order, row-judged, rows-from, rows-judged, sound-rows, row-bound, row-gain}
+use Rattle.demand.specs.Lines.{line-judged, sound-line}
 use Rattle.demand.proofs.Faults.{isOk-then}
 
 -- one more row is judged
@@ -82,9 +84,18 @@ judged-ok rs start =
     elim (from-to 1 8 (length rs)) as (λ b. isOk (cond b (rows-from None rs start 4) (Err (WrongLength (spot start 0)))) ≡ (b && rows-fine None rs))
     [ true ↦ rows-ok None rs start 4 | false ↦ refl ]
 
--- rows that are accepted in one place are so in every place
+-- rows that are accepted in one place are so in every place, and so is a line
+pub judged-anywhere : (rs : List Row) (start : RecordStart) → isOk (rows-judged rs start) ≡ sound-rows rs
+judged-anywhere rs start = judged-ok rs start ∙ sym (judged-ok rs (record { index = 0; place = 0 }))
+
 pub sound-anywhere : (rs : List Row) (start : RecordStart) → isOk (rows-judged rs start) ≡ true → sound-rows rs ≡ true
-sound-anywhere rs start e = judged-ok rs (record { index = 0; place = 0 }) ∙ sym (judged-ok rs start) ∙ e
+sound-anywhere rs start e = sym (judged-anywhere rs start) ∙ e
+
+pub line-ok : (x : Line) (start : RecordStart) → isOk (line-judged x start) ≡ (from-to 1 4096 (x .deadline) && (leb (x .burst) 4096 && (power-of-two (x .per) && leb (x .rate) (x .per))))
+line-ok x start = four-fields (from-to 1 4096 (x .deadline)) (leb (x .burst) 4096) (power-of-two (x .per)) (leb (x .rate) (x .per)) (spot start 4) (spot start 6) (spot start 8) (spot start 10)
+
+pub line-anywhere : (x : Line) (start : RecordStart) → isOk (line-judged x start) ≡ sound-line x
+line-anywhere x start = line-ok x start ∙ sym (line-ok x (record { index = 0; place = 0 }))
 
 power-low : (e x : ℕ) → power-up-to e x ≡ true → (k : ℕ) × (k ≤ e) × (x ≡ 2 ^ k)
 power-low zero x h = (0, omega arith, eqb-true x 1 h)

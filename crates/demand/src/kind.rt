@@ -1,8 +1,10 @@
 ghost use mathlib.Core.List.{List};
 ghost use mathlib.Core.Path.{_≡_};
-ghost use Prim.Native.Nat.{ℕ, _<_};
+ghost use Prim.Native.Nat.{ℕ, _<_, _≤_};
 ghost use lib.ListN.{length};
 ghost use Rattle.demand.specs.Faults.{spot, meaning};
+ghost use Rattle.demand.specs.Kinds.{kind-of, fields-of};
+ghost use Rattle.demand.specs.Over.{over};
 ghost use Rattle.demand.specs.Sheets.{Declaration};
 ghost use Rattle.demand.specs.declared.fault.FileFault.{FileFault};
 ghost use Rattle.demand.specs.declared.fault.FileFault.the-variants.{WrongLength};
@@ -12,7 +14,7 @@ ghost use Rattle.std.specs.declared.result.Result.the-variants.{Err};
 use crate::fault::FileFault;
 use crate::fault::RecordStart;
 
-// A kind of sheet: its number in a file, and how its fields, two bytes each, are read.
+// A kind of sheet: its number in a file, and how its fields, two bytes each, are read and written.
 pub trait SheetKind: Sized {
     const KIND: u16;
 
@@ -21,15 +23,28 @@ pub trait SheetKind: Sized {
 
     ghost declares: { Self → Declaration };
 
+    law named: { (x : Self) → kind-of (declares x) ≡ number };
+
     // What the fields of the record at a start declare, or the first fault in them.
     ghost judged: { List ℕ → RecordStart → Result Declaration FileFault };
 
     // No sheet has more than 40 fields.
     law short: { (fs : List ℕ) (start : RecordStart) → 40 < length fs → judged fs start ≡ Err (WrongLength (spot start 0)) };
 
+    // Nor has a sheet that exists.
+    law slots: { (x : Self) → length (fields-of (declares x)) ≤ 40 };
+
     fn tag() -> u16
         ensures { λ r. ⌜ r ≡ number ⌝ };
 
     fn from_fields(fields: &[u16], start: RecordStart) -> Result<Self, FileFault>
         ensures { λ r. ⌜ meaning declares r ≡ judged (now (fields .entry)) start ⌝ };
+
+    // How many fields the sheet has.
+    fn field_count(&self) -> usize
+        ensures { λ r. ⌜ r ≡ length (fields-of (declares (now (self .entry)))) ⌝ };
+
+    // Puts the sheet's fields into the first slots.
+    fn put_fields(&self, out: &mut [u16; 40])
+        ensures { λ _. ⌜ now (out .exit) ≡ over (fields-of (declares (now (self .entry)))) (now (out .entry)) ⌝ };
 }

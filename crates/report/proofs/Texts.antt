@@ -1,18 +1,13 @@
 use mathlib.Core.Path.{_≡_, refl, sym, ap, _∙_}
 use mathlib.Core.List.{List, [], _∷_, _++_, map}
 use Prim.Native.Nat.{ℕ, _+_, _-_, _<_, _≤_}
-use lib.ListN.{length, getD, take, drop}
-use Rattle.std.specs.shelf.Lists.{joined}
-use Rattle.std.proofs.shelf.Lists.{append-assoc, append-nil, joined-more, take-more, at-drop-more, at-drop-all}
+use lib.ListN.{length, getD, drop}
+use Rattle.std.proofs.shelf.Lists.{append-assoc, append-nil, at-drop-more, at-drop-all}
 use Rattle.demand.specs.declared.sheet.Sheet.{Sheet}
 use Rattle.demand.specs.declared.verdict.TestRefusal.{TestRefusal}
 use Rattle.demand.specs.declared.verdict.TestRefusal.the-variants.{DemandExceeds}
 use Rattle.demand.specs.Sheets.{declared}
 use Rattle.report.specs.Text.{sheet-text, sheets-text, excess-line, refused-slack-line}
-
--- the text of one element more
-pub joined-take-more : {X A : Type 0} (f : X → List A) (xs : List X) (i : ℕ) (d : X) → i < length xs → joined f (take (i + 1) xs) ≡ joined f (take i xs) ++ f (getD xs i d)
-joined-take-more {X} {A} f xs i d h = ap (λ (l : List X). joined f l) (take-more xs i d h) ∙ sym (joined-more f [] (take i xs) (getD xs i d))
 
 -- the text of one sheet more, behind what is written so far
 pub sheets-more : (ss : List Sheet) (i : ℕ) (s : Sheet) (so-far lines : List ℕ) → i < length ss → s ≡ getD ss i s → lines ≡ sheet-text i (declared s) → so-far ++ sheets-text i (map declared (drop i ss)) ≡ (so-far ++ lines) ++ sheets-text (i + 1) (map declared (drop (i + 1) ss))

@@ -34,4 +34,15 @@ pub impl SheetKind for LineSheet as LineSheetKind {
             start,
         )
     }
+
+    fn field_count(&self) -> usize {
+        4
+    }
+
+    fn put_fields(&self, out: &mut [u16; 40]) {
+        out[0] = self.line.deadline;
+        out[1] = self.line.burst;
+        out[2] = self.line.per;
+        out[3] = self.line.rate;
+    }
 }

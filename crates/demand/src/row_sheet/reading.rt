@@ -1,7 +1,9 @@
 ghost use mathlib.Core.Path.{_≡_};
-ghost use Prim.Native.Nat.{_/_, _≤_};
+ghost use mathlib.Core.List.{List, _++_};
+ghost use Prim.Native.Nat.{ℕ, _+_, _/_, _≤_};
 ghost use lib.ListN.{length, take};
-ghost use Rattle.demand.specs.Kinds.{rows-in, rows-record};
+ghost use Rattle.demand.specs.Kinds.{rows-in, rows-record, row-fields-of};
+ghost use Rattle.demand.specs.Over.{over};
 ghost use Rattle.demand.specs.Sheets.{rows, sheet-rows};
 use crate::fault::FileFault;
 use crate::fault::RecordStart;
@@ -27,6 +29,17 @@ fn rows_of(fields: &[u16]) -> [Row; 8]
     held
 }
 
+// Puts the row's fields into the four slots from `at` on.
+fn put_row(row: &Row, out: &mut [u16; 40], at: usize)
+    requires { ⌜ at + 4 ≤ 40 ⌝ }
+    ensures { λ _. ⌜ ((first old : List ℕ) → now (out .entry) ≡ over first old → at ≡ length first → length old ≡ 40 → now (out .exit) ≡ over (first ++ row-fields-of (now (row .entry))) old) ⌝ }
+{
+    out[at] = row.period;
+    out[at + 1] = row.deadline;
+    out[at + 2] = row.budget;
+    out[at + 3] = row.copies;
+}
+
 pub impl SheetKind for RowSheet as RowSheetKind {
     const KIND: u16 = 1;
 
@@ -47,5 +60,16 @@ pub impl SheetKind for RowSheet as RowSheetKind {
         }
         let held = rows_of(fields);
         sheet_of_rows(&held[0..count], start)
+    }
+
+    fn field_count(&self) -> usize {
+        4 * self.rows().len()
+    }
+
+    fn put_fields(&self, out: &mut [u16; 40]) {
+        let rows = self.rows();
+        for (i, row) in rows.iter().enumerate() {
+            put_row(row, out, 4 * i);
+        }
     }
 }

@@ -6,7 +6,7 @@ use Rattle.std.specs.shelf.Lists.{joined}
 use Rattle.std.proofs.shelf.Lists.{take-all}
 use Rattle.demand.specs.declared.row.Row.{Row}
 use Rattle.report.specs.Text.{row-line}
-use Rattle.report.proofs.Texts.{joined-take-more}
+use Rattle.demand.proofs.Filling.{joined-take-more}
 use Rattle.report.proofs.sheets.lines_for_rows.Needs as need
 
 pub loop-row-again : need.loop-row-again
