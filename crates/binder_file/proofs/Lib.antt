@@ -1,3 +1,5 @@
 pub mod Encoding
 pub mod Format
+pub mod Nearness
+pub mod Rewriting
 pub mod Words

@@ -1,2 +1,3 @@
+pub mod Boot
 pub mod Format
 pub mod Writing

@@ -4,12 +4,13 @@ ghost use Prim.Native.Nat.{ℕ, _+_, _<_, _≤_};
 ghost use lib.ListN.{length};
 ghost use mathlib.Core.Bool.{false};
 ghost use Rattle.binder_file.specs.Format.{ends-inside, next-start, records-from, decode, record-bytes};
-ghost use Rattle.demand.specs.Faults.{then, meaning, value-or};
+ghost use Rattle.binder_file.specs.Writing.{encode};
+ghost use Rattle.demand.specs.Faults.{then, meaning, value-or, fault-numbers};
 ghost use Rattle.demand.specs.Sheets.{Declaration, declarations};
 ghost use Rattle.demand.specs.Kinds.{making-judged};
 ghost use Rattle.demand.specs.declared.fault.FileFault.{FileFault};
 ghost use Rattle.std.specs.Vec.{made};
-ghost use Rattle.std.specs.declared.result.Result.the-variants.{Err};
+ghost use Rattle.std.specs.declared.result.Result.the-variants.{Ok, Err};
 use crate::record::read_record;
 use crate::record::word;
 use demand::FileFault;
@@ -65,11 +66,14 @@ fn read_sheets(bytes: &[u8]) -> Result<SheetBinder, FileFault>
 }
 
 // Replaces the binder's sheets by those of the file, or refuses the file and leaves the binder as it is. A file of one record
-// gets the answer that making a sheet of the record's fields gets.
+// gets the answer that making a sheet of the record's fields gets. Writing what was read gives the file again.
 pub fn read_file(binder: &mut SheetBinder, bytes: &[u8]) -> Result<(), FileFault>
     ensures answer { λ r. ⌜ r ≡ meaning (λ _. tt {0}) (decode (now (bytes .entry))) ⌝ }
     ensures sheets { λ _. ⌜ declarations (now (binder .exit)) ≡ value-or (decode (now (bytes .entry))) (declarations (now (binder .entry))) ⌝ }
     ensures alone_as_made { λ r. ⌜ ((d : Declaration) → now (bytes .entry) ≡ record-bytes d → r ≡ making-judged d (record { index = 0; place = 0 })) ⌝ }
+    ensures writes_back { λ r. ⌜ (r ≡ Ok tt → encode (declarations (now (binder .exit))) ≡ now (bytes .entry)) ⌝ }
+    ensures one_to_eight { λ r. ⌜ (r ≡ Ok tt → (1 ≤ length (declarations (now (binder .exit)))) × (length (declarations (now (binder .exit))) ≤ 8)) ⌝ }
+    ensures near { λ r. ⌜ ((e : FileFault) → r ≡ Err e → fault-numbers e .2 < 65536) ⌝ }
     ensures kept { λ r. ⌜ ((e : FileFault) → r ≡ Err e → now (binder .exit) ≡ now (binder .entry)) ⌝ }
 {
     *binder = read_sheets(bytes)?;

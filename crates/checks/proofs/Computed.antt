@@ -7,8 +7,9 @@ use Rattle.std.specs.shelf.Lists.{All}
 use Rattle.std.proofs.shelf.Tests.{and-parts, eqb-true}
 use Rattle.demand.specs.Sheets.{bound-of}
 use Rattle.demand.specs.Admission.{first-exceeded}
+use Rattle.binder_file.specs.Boot.{verdict-on}
 use Rattle.binder_file.specs.Format.{decode, records-from}
-use Rattle.checks.specs.Reference.{file-numbers, verdict-on, Value, bound, verdict, fault, Agrees, reference-values}
+use Rattle.checks.specs.Reference.{file-numbers, Value, bound, verdict, fault, Agrees, reference-values}
 
 -- the test of one value, and of a list of them
 agrees : Value → Bool

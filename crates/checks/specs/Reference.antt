@@ -1,26 +1,20 @@
 use Prim.Native.Nat.{ℕ}
 use mathlib.Core.Path.{_≡_}
 use mathlib.Core.List.{List, [], _∷_}
-use lib.ListN.{length}
 use Rattle.std.specs.declared.result.Result.{Result}
 use Rattle.std.specs.declared.result.Result.the-variants.{Ok, Err}
 use Rattle.demand.specs.declared.row.Row.{Row}
 use Rattle.demand.specs.declared.line.Line.{Line}
 use Rattle.demand.specs.declared.fault.FileFault.{FileFault}
 use Rattle.demand.specs.Faults.{fault-numbers}
-use Rattle.demand.specs.Sheets.{Declaration, rows, line, bound-of, component-bound, component-gain}
-use Rattle.demand.specs.Admission.{admission}
-use Rattle.demand.specs.Verdicts.{verdict-numbers}
+use Rattle.demand.specs.Sheets.{Declaration, rows, line, bound-of}
+use Rattle.binder_file.specs.Boot.{verdict-on}
 use Rattle.binder_file.specs.Format.{decode}
 
 -- the numbers of a file's fault, (0, 0, 0) where there is none
 abbrev pub file-numbers : Result (List Declaration) FileFault → ℕ × ℕ × ℕ
 file-numbers (Ok ds) = (0, 0, 0)
 file-numbers (Err f) = fault-numbers f
-
--- the test's verdict on these sheets
-abbrev pub verdict-on : List Declaration → ℕ × ℕ
-verdict-on ds = verdict-numbers (admission (length ds) (component-bound ds) (component-gain ds))
 
 -- a value that is known beforehand: of a sheet's bound at a length, of the verdict on sheets, of a file's fault
 pub data Value : Type 0 where

@@ -148,3 +148,29 @@ admitted-numbers (Ok _) e = refl
 admitted-numbers (Err (DemandExceeds l)) e = let z : _≡_ {A = ℕ} 8 0 = ap (λ (p : ℕ × ℕ). p .0) e in absurd (omega arith)
 admitted-numbers (Err GainsExceed) e = let z : _≡_ {A = ℕ} 9 0 = ap (λ (p : ℕ × ℕ). p .0) e in absurd (omega arith)
 admitted-numbers (Err SheetCount) e = let z : _≡_ {A = ℕ} 10 0 = ap (λ (p : ℕ × ℕ). p .0) e in absurd (omega arith)
+
+-- the numbers of a verdict on one to eight components
+exceeded-within : (d : ℕ → ℕ) (l more x : ℕ) → first-exceeded d l more ≡ Some x → x < l + more
+unfolding first-exceeded
+exceeded-within d l zero x e = let z : _≡_ {A = ℕ} 0 1 = cc in absurd (omega arith)
+exceeded-within d l (suc more) x e =
+    ⊎-elim (λ (t : ltb l (d l) ≡ true).
+      let q : Some l ≡ Some x = sym (cond-true (ltb l (d l)) (Some l) (first-exceeded d (l + 1) more) t) ∙ e in
+      let same : l ≡ x = cc in
+      omega arith)
+    (λ (f : ltb l (d l) ≡ false).
+      let q = exceeded-within d (l + 1) more x (sym (cond-false (ltb l (d l)) (Some l) (first-exceeded d (l + 1) more) f) ∙ e) in
+      omega arith)
+    (cases-bool (ltb l (d l)))
+
+gains-numbers : (o : Option ℕ) (gains : ℕ) → ((x : ℕ) → o ≡ Some x → x ≤ 8192) → (verdict-numbers (by-gains o gains) .0 ≤ 9) × (verdict-numbers (by-gains o gains) .1 ≤ 8192)
+gains-numbers (Some l) gains h = (omega arith, h l refl)
+gains-numbers None gains h =
+    elim (leb gains 4096) as (λ b. (verdict-numbers (cond {A = Result (Unit {0}) TestRefusal} b (Ok (tt {0})) (Err GainsExceed)) .0 ≤ 9) × (verdict-numbers (cond {A = Result (Unit {0}) TestRefusal} b (Ok (tt {0})) (Err GainsExceed)) .1 ≤ 8192))
+    [ true ↦ (omega arith, omega arith) | false ↦ (omega arith, omega arith) ]
+
+pub numbers-fit : (count : ℕ) (bound : ℕ → ℕ → ℕ) (gain : ℕ → ℕ) → 1 ≤ count → count ≤ 8 → (verdict-numbers (admission count bound gain) .0 ≤ 9) × (verdict-numbers (admission count bound gain) .1 ≤ 8192)
+numbers-fit count bound gain low high =
+    let e = enough count bound gain low high in
+    let g = gains-numbers (first-exceeded (demand count bound) 1 8192) (total count gain) (λ x f. omega (arith, exceeded-within (demand count bound) 1 8192 x f)) in
+    rw e g

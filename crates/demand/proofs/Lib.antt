@@ -2,7 +2,9 @@ pub mod Admitted
 pub mod Faults
 pub mod Filling
 pub mod Overwriting
+pub mod Places
 pub mod Records
+pub mod Inverting
 pub mod Lawful
 pub mod Rows
 pub mod Sheets

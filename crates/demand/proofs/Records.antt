@@ -3,16 +3,18 @@ use mathlib.Core.Bool.{true, false, cond}
 use mathlib.Core.List.{List, [], _∷_, _++_, map}
 use mathlib.Core.Logic.{_⊎_, ⊎-elim}
 use Prim.Native.Nat.{ℕ, zero, suc, _+_, _*_, _/_, _%_, _<_, _≤_}
+use native.Mathlib.Numerals.{add-one}
 use native.Mathlib.Omega.{arith}
 use lib.Dec.{eqb, leb}
-use lib.ListN.{length, getD}
+use lib.ListN.{length, getD, take}
 use Rattle.std.specs.Iters.{counting}
 use Rattle.std.specs.Results.{isOk}
 use Rattle.std.specs.shelf.Lists.{joined}
+use Rattle.std.specs.declared.option.Option.the-variants.{None}
 use Rattle.std.specs.declared.result.Result.{Result}
 use Rattle.std.specs.declared.result.Result.the-variants.{Ok, Err}
-use Rattle.std.proofs.shelf.Counted.{length-map-counting, fill-by-all}
-use Rattle.std.proofs.shelf.Lists.{getD-append-add}
+use Rattle.std.proofs.shelf.Counted.{length-map-counting, fill-by-all, map-counting-more}
+use Rattle.std.proofs.shelf.Lists.{getD-append-add, append-assoc, take-more, take-all, joined-more}
 use Rattle.std.proofs.shelf.Tests.{cond-true, cond-false, eq-eqb, ne-eqb, cases-bool, and-right, lt-leb, eqb-true, true≢false}
 use Rattle.demand.specs.declared.line.Line.{Line}
 use Rattle.demand.specs.declared.line_sheet.LineSheet.{LineSheet}
@@ -28,8 +30,9 @@ use Rattle.demand.specs.Lines.{line-judged}
 use Rattle.demand.specs.declared.sheet.Sheet.{Sheet}
 use Rattle.demand.specs.declared.sheet.Sheet.the-variants.{Rows, Line as Straight}
 use Rattle.demand.specs.Sheets.{Declaration, rows, line, sheet-rows, declared}
-use Rattle.demand.proofs.Rows.{sound-all, judged-anywhere, line-anywhere}
-use Rattle.demand.specs.Kinds.{row-at, rows-in, line-in, rows-record, line-record, row-fields-of, fields-of, making-judged}
+use Rattle.demand.proofs.Rows.{sound-all, judged-anywhere, line-anywhere, range-from}
+use Rattle.demand.proofs.Inverting.{then-went, passed, same-ok}
+use Rattle.demand.specs.Kinds.{row-at, rows-in, line-in, rows-record, line-record, row-fields-of, fields-of, kind-of, making-judged}
 use Rattle.demand.proofs.Faults.{then-err, meaning-by}
 
 pub length-rows-in : (fs : List ℕ) → length (rows-in fs) ≡ length fs / 4
@@ -112,3 +115,51 @@ ok-unit (Err f) e = absurd (true≢false (sym e))
 pub sheet-accepted : (s : Sheet) (start : RecordStart) → making-judged (declared s) start ≡ Ok tt
 sheet-accepted (Rows s) start = ok-unit (rows-judged (sheet-rows s) start) (judged-anywhere (sheet-rows s) start ∙ s .sound)
 sheet-accepted (Straight s) start = ok-unit (line-judged (s .line) start) (line-anywhere (s .line) start ∙ s .sound)
+
+-- the rows of fields, written as fields again
+rows-forth : (fs : List ℕ) (n : ℕ) → 4 * n ≤ length fs → joined row-fields-of (map (row-at fs) (counting 0 n)) ≡ take (4 * n) fs
+rows-forth fs zero h = refl
+rows-forth fs (suc n) h =
+    let k = 4 * n in
+    let e : 4 * suc n ≡ k + 1 + 1 + 1 + 1 = omega arith in
+    let two : k + 1 + 1 ≡ k + 2 = omega arith in
+    let three : k + 1 + 1 + 1 ≡ k + 3 = omega arith in
+    let front : take (4 * suc n) fs ≡ (((take k fs ++ getD fs k 0 ∷ []) ++ getD fs (k + 1) 0 ∷ []) ++ getD fs (k + 2) 0 ∷ []) ++ getD fs (k + 3) 0 ∷ [] =
+      ap (λ m. take m fs) e ∙ take-more fs (k + 1 + 1 + 1) 0 (omega arith)
+      ∙ ap (λ (l : List ℕ). l ++ getD fs (k + 1 + 1 + 1) 0 ∷ []) (take-more fs (k + 1 + 1) 0 (omega arith) ∙ ap (λ (l : List ℕ). l ++ getD fs (k + 1 + 1) 0 ∷ []) (take-more fs (k + 1) 0 (omega arith) ∙ ap (λ (l : List ℕ). l ++ getD fs (k + 1) 0 ∷ []) (take-more fs k 0 (omega arith))))
+      ∙ ap (λ m. (((take k fs ++ getD fs k 0 ∷ []) ++ getD fs (k + 1) 0 ∷ []) ++ getD fs m 0 ∷ []) ++ getD fs (k + 1 + 1 + 1) 0 ∷ []) two
+      ∙ ap (λ m. (((take k fs ++ getD fs k 0 ∷ []) ++ getD fs (k + 1) 0 ∷ []) ++ getD fs (k + 2) 0 ∷ []) ++ getD fs m 0 ∷ []) three in
+    ap (λ m. joined row-fields-of (map (row-at fs) (counting 0 m))) (sym (add-one n))
+    ∙ ap (λ (l : List Row). joined row-fields-of l) (map-counting-more (row-at fs) 0 n n (omega arith))
+    ∙ sym (joined-more row-fields-of [] (map (row-at fs) (counting 0 n)) (row-at fs n))
+    ∙ ap (λ (l : List ℕ). l ++ row-fields-of (row-at fs n)) (rows-forth fs n (omega arith))
+    ∙ sym (simp append-assoc at front)
+
+line-forth : (fs : List ℕ) → length fs ≡ 4 → fields-of (line (line-in fs)) ≡ fs
+line-forth [] h = absurd (omega arith)
+line-forth (a ∷ []) h = absurd (omega arith)
+line-forth (a ∷ b ∷ []) h = absurd (omega arith)
+line-forth (a ∷ b ∷ c ∷ []) h = absurd (omega arith)
+line-forth (a ∷ b ∷ c ∷ d ∷ []) h = refl
+line-forth (a ∷ b ∷ c ∷ d ∷ e ∷ fs) h = absurd (omega arith)
+
+-- an accepted record has the fields and the kind of the sheet that it declares
+pub rows-accepted : (fs : List ℕ) (start : RecordStart) (d : Declaration) → rows-record fs start ≡ Ok d → (fields-of d ≡ fs) × (kind-of d ≡ 1) × (length fs ≤ 40)
+rows-accepted fs start d e =
+    let p = passed (eqb (length fs % 4) 0) (then (rows-judged (rows-in fs) start) (λ _. Ok (rows (rows-in fs)))) (WrongLength (spot start 0)) d e in
+    let q = then-went (rows-judged (rows-in fs) start) (λ _. Ok (rows (rows-in fs))) d (p .1) in
+    let few = passed (from-to 1 8 (length (rows-in fs))) (rows-from None (rows-in fs) start 4) (WrongLength (spot start 0)) (q .0) (q .1) in
+    let s = same-ok (rows (rows-in fs)) d (q .2) in
+    let n = eqb-true (length fs % 4) 0 (p .0) in
+    let m : 4 * (length fs / 4) ≡ length fs = omega arith in
+    ( ap fields-of (sym s) ∙ rows-forth fs (length fs / 4) (omega arith) ∙ take-all (4 * (length fs / 4)) fs (omega arith)
+    , ap kind-of (sym s)
+    , omega (arith, range-from 1 8 (length (rows-in fs)) (few .0) .1, length-rows-in fs) )
+
+pub line-accepted : (fs : List ℕ) (start : RecordStart) (d : Declaration) → line-record fs start ≡ Ok d → (fields-of d ≡ fs) × (kind-of d ≡ 2) × (length fs ≤ 40)
+line-accepted fs start d e =
+    let p = passed (eqb (length fs) 4) (then (line-judged (line-in fs) start) (λ _. Ok (line (line-in fs)))) (WrongLength (spot start 0)) d e in
+    let q = then-went (line-judged (line-in fs) start) (λ _. Ok (line (line-in fs))) d (p .1) in
+    let s = same-ok (line (line-in fs)) d (q .2) in
+    let n = eqb-true (length fs) 4 (p .0) in
+    (ap fields-of (sym s) ∙ line-forth fs n, ap kind-of (sym s), omega arith)
