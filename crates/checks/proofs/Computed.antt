@@ -6,14 +6,14 @@ use lib.Dec.{eqb}
 use Rattle.std.specs.shelf.Lists.{All}
 use Rattle.std.proofs.shelf.Tests.{and-parts, eqb-true}
 use Rattle.demand.specs.Sheets.{bound-of}
-use Rattle.demand.specs.Admission.{first-exceeded}
+use Rattle.demand.specs.Admission.{first-where}
 use Rattle.binder_file.specs.Boot.{verdict-on}
 use Rattle.binder_file.specs.Format.{decode, records-from}
 use Rattle.checks.specs.Reference.{file-numbers, Value, bound, verdict, fault, Agrees, reference-values}
 
 -- the test of one value, and of a list of them
 agrees : Value → Bool
-unfolding first-exceeded records-from
+unfolding first-where records-from
 agrees (bound d l units) = eqb (bound-of d l) units
 agrees (verdict ds numbers) = eqb (verdict-on ds .0) (numbers .0) && eqb (verdict-on ds .1) (numbers .1)
 agrees (fault bytes numbers) = eqb (file-numbers (decode bytes) .0) (numbers .0) && (eqb (file-numbers (decode bytes) .1) (numbers .1) && eqb (file-numbers (decode bytes) .2) (numbers .2))
@@ -23,7 +23,7 @@ all-agree [] = true
 all-agree (v ∷ vs) = agrees v && all-agree vs
 
 computed : all-agree reference-values ≡ true
-unfolding agrees all-agree first-exceeded records-from
+unfolding agrees all-agree first-where records-from
 computed = refl
 
 two-same : (a b c d : ℕ) → a ≡ c → b ≡ d → _≡_ {A = ℕ × ℕ} (a, b) (c, d)

@@ -14,9 +14,10 @@ use Rattle.std.specs.declared.result.Result.the-variants.{Ok, Err}
 use Rattle.demand.specs.declared.verdict.TestRefusal.{TestRefusal}
 use Rattle.demand.specs.declared.verdict.TestRefusal.the-variants.{DemandExceeds, GainsExceed, SheetCount}
 use Rattle.demand.specs.Fields.{from-to}
+use Rattle.demand.proofs.Firsts.{first-here, first-later, first-none}
 use Rattle.demand.proofs.Rows.{range-from}
 use Rattle.demand.specs.Verdicts.{verdict-numbers}
-use Rattle.demand.specs.Admission.{total, demand, first-exceeded, by-gains, admission, DemandFits, slack, Tightest}
+use Rattle.demand.specs.Admission.{total, demand, first-where, first-exceeded, by-gains, admission, DemandFits, slack, Tightest}
 
 -- one component more
 pub total-more : (n : ℕ) (f : ℕ → ℕ) → total (n + 1) f ≡ total n f + f n
@@ -26,17 +27,12 @@ total-more n f = rw add-one refl
 pub gain-fits : (f : ℕ → ℕ) (g : ℕ) → f (4096 + 4096) ≡ f 4096 + g → f (4096 + 4096) ≤ 2 ^ 52 → g ≤ 2 ^ 52
 gain-fits f g e h = omega arith
 
-more-lengths : (l : ℕ) → l ≤ 8192 → 8193 - l ≡ suc (8193 - (l + 1))
-more-lengths l h = omega arith
-
 -- one length is looked at
 pub exceeded-here : (d : ℕ → ℕ) (l : ℕ) → l ≤ 8192 → l < d l → first-exceeded d l (8193 - l) ≡ Some l
-unfolding first-exceeded
-exceeded-here d l h k = ap (first-exceeded d l) (more-lengths l h) ∙ cond-true (ltb l (d l)) (Some l) _ (lt-ltb l (d l) k)
+exceeded-here d l h k = first-here (λ n. ltb n (d n)) l 8193 (omega arith) (lt-ltb l (d l) k)
 
 pub exceeded-later : (d : ℕ → ℕ) (l : ℕ) → l ≤ 8192 → d l ≤ l → first-exceeded d l (8193 - l) ≡ first-exceeded d (l + 1) (8193 - (l + 1))
-unfolding first-exceeded
-exceeded-later d l h k = ap (first-exceeded d l) (more-lengths l h) ∙ cond-false (ltb l (d l)) (Some l) _ (le-ltb l (d l) k)
+exceeded-later d l h k = first-later (λ n. ltb n (d n)) l 8193 (omega arith) (le-ltb l (d l) k)
 
 -- none is found exactly where every length suffices
 none-step : (d : ℕ → ℕ) (l more : ℕ) (b : Bool) → cond b (Some l) (first-exceeded d (l + 1) more) ≡ None → (b ≡ false) × (first-exceeded d (l + 1) more ≡ None)
@@ -44,7 +40,7 @@ none-step d l more true e = let z : _≡_ {A = ℕ} 0 1 = cc in absurd (omega ar
 none-step d l more false e = (refl, e)
 
 none-suffices : (d : ℕ → ℕ) (l more : ℕ) → first-exceeded d l more ≡ None → (m : ℕ) → l ≤ m → m < l + more → d m ≤ m
-unfolding first-exceeded
+unfolding first-where
 none-suffices d l zero e m h k = absurd (omega arith)
 none-suffices d l (suc more) e m h k =
     let s = none-step d l more (ltb l (d l)) e in
@@ -53,7 +49,7 @@ none-suffices d l (suc more) e m h k =
     (cases-lt l m)
 
 suffices-none : (d : ℕ → ℕ) (l more : ℕ) → ((m : ℕ) → l ≤ m → m < l + more → d m ≤ m) → first-exceeded d l more ≡ None
-unfolding first-exceeded
+unfolding first-where
 suffices-none d l zero h = refl
 suffices-none d l (suc more) h =
     cond-false (ltb l (d l)) (Some l) _ (le-ltb l (d l) (h l (omega arith) (omega arith))) ∙ suffices-none d (l + 1) more (λ m p q. h m (omega arith) (omega arith))
@@ -131,8 +127,7 @@ module _ (count : ℕ) (bound : ℕ → ℕ → ℕ) (gain : ℕ → ℕ) where
   exceeds-at l low high e h k = enough low high ∙ ap (λ o. by-gains o (total count gain)) (e ∙ exceeded-here (demand count bound) l h k)
 
   ends : (l : ℕ) → 8193 ≤ l → first-exceeded (demand count bound) l (8193 - l) ≡ None
-  unfolding first-exceeded
-  ends l h = let z : 8193 - l ≡ 0 = omega arith in ap (first-exceeded (demand count bound) l) z
+  ends l h = first-none (λ n. ltb n (demand count bound n)) l 8193 h
 
   pub gains-exceed : (l : ℕ) → 1 ≤ count → count ≤ 8 → first-exceeded (demand count bound) 1 8192 ≡ first-exceeded (demand count bound) l (8193 - l) → 8193 ≤ l → 4096 < total count gain → admission count bound gain ≡ Err GainsExceed
   gains-exceed l low high e h k =
@@ -151,7 +146,7 @@ admitted-numbers (Err SheetCount) e = let z : _≡_ {A = ℕ} 10 0 = ap (λ (p :
 
 -- the numbers of a verdict on one to eight components
 exceeded-within : (d : ℕ → ℕ) (l more x : ℕ) → first-exceeded d l more ≡ Some x → x < l + more
-unfolding first-exceeded
+unfolding first-where
 exceeded-within d l zero x e = let z : _≡_ {A = ℕ} 0 1 = cc in absurd (omega arith)
 exceeded-within d l (suc more) x e =
     ⊎-elim (λ (t : ltb l (d l) ≡ true).

@@ -2,11 +2,16 @@ pub mod Admitted
 pub mod Faults
 pub mod Filling
 pub mod Overwriting
+pub mod Placed
 pub mod Places
 pub mod Records
+pub mod Firsts
+pub mod Grouping
 pub mod Inverting
 pub mod Lawful
+pub mod Rounding
 pub mod Rows
 pub mod Sheets
 pub mod Sides
 pub mod Sporadic
+pub mod Tasked

@@ -70,10 +70,10 @@ pub length-row-fields : (rs : List Row) → length (joined row-fields-of rs) ≡
 length-row-fields [] = refl
 length-row-fields (r ∷ rs) = omega (arith, length-row-fields rs)
 
-abbrev four : ℕ → ℕ → ℕ → ℕ → Row
+abbrev pub four : ℕ → ℕ → ℕ → ℕ → Row
 four t d c n = record { period = t; deadline = d; budget = c; copies = n }
 
-same-four : (t t′ d d′ c c′ n n′ : ℕ) → t ≡ t′ → d ≡ d′ → c ≡ c′ → n ≡ n′ → four t d c n ≡ four t′ d′ c′ n′
+pub same-four : (t t′ d d′ c c′ n n′ : ℕ) → t ≡ t′ → d ≡ d′ → c ≡ c′ → n ≡ n′ → four t d c n ≡ four t′ d′ c′ n′
 same-four t t′ d d′ c c′ n n′ p q r s = cc
 
 row-behind : (r : Row) (fs : List ℕ) (k m : ℕ) → k ≡ 4 + m → getD (row-fields-of r ++ fs) k 0 ≡ getD fs m 0

@@ -52,7 +52,7 @@ four-fields true true true false i j k l = refl
 four-fields true true true true i j k l = refl
 
 -- r may follow the last row, if any
-abbrev follows : Option Row → Row → Bool
+abbrev pub follows : Option Row → Row → Bool
 follows None r = true
 follows (Some last) r = before last r
 
@@ -68,7 +68,7 @@ row-ok last r start offset =
     ∙ ap (λ b. row-ranges r && b) (order-ok last r (spot start offset))
 
 -- rows in range and in order
-abbrev rows-fine : Option Row → List Row → Bool
+abbrev pub rows-fine : Option Row → List Row → Bool
 rows-fine last [] = true
 rows-fine last (r ∷ rs) = (row-ranges r && follows last r) && rows-fine (Some r) rs
 
@@ -79,7 +79,7 @@ rows-ok last (r ∷ rs) start offset =
     ∙ ap (λ b. b && isOk (rows-from (Some r) rs start (offset + 8))) (row-ok last r start offset)
     ∙ ap (λ b. (row-ranges r && follows last r) && b) (rows-ok (Some r) rs start (offset + 8))
 
-judged-ok : (rs : List Row) (start : RecordStart) → isOk (rows-judged rs start) ≡ (from-to 1 8 (length rs) && rows-fine None rs)
+pub judged-ok : (rs : List Row) (start : RecordStart) → isOk (rows-judged rs start) ≡ (from-to 1 8 (length rs) && rows-fine None rs)
 judged-ok rs start =
     elim (from-to 1 8 (length rs)) as (λ b. isOk (cond b (rows-from None rs start 4) (Err (WrongLength (spot start 0)))) ≡ (b && rows-fine None rs))
     [ true ↦ rows-ok None rs start 4 | false ↦ refl ]

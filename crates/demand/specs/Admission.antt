@@ -1,6 +1,6 @@
 use Prim.Native.Nat.{ℕ, zero, suc, _+_, _-_, _<_, _≤_}
 use mathlib.Core.Path.{_≡_}
-use mathlib.Core.Bool.{cond}
+use mathlib.Core.Bool.{Bool, cond}
 use lib.Dec.{ltb, leb}
 use Rattle.std.specs.declared.option.Option.{Option}
 use Rattle.std.specs.declared.option.Option.the-variants.{Some, None}
@@ -19,10 +19,14 @@ total (suc n) f = total n f + f n
 abbrev pub demand : ℕ → (ℕ → ℕ → ℕ) → ℕ → ℕ
 demand n bound l = total n (λ k. bound k l)
 
+-- the first of the `more` numbers from n on that passes a test
+unfoldable pub first-where : (ℕ → Bool) → ℕ → ℕ → Option ℕ
+first-where test n zero = None
+first-where test n (suc more) = cond (test n) (Some n) (first-where test (n + 1) more)
+
 -- the shortest of the `more` lengths from l on that is too short for what is demanded in it
-unfoldable pub first-exceeded : (ℕ → ℕ) → ℕ → ℕ → Option ℕ
-first-exceeded demanded l zero = None
-first-exceeded demanded l (suc more) = cond (ltb l (demanded l)) (Some l) (first-exceeded demanded (l + 1) more)
+abbrev pub first-exceeded : (ℕ → ℕ) → ℕ → ℕ → Option ℕ
+first-exceeded demanded l more = first-where (λ n. ltb n (demanded n)) l more
 
 -- without a length that is exceeded, the gains decide
 abbrev pub by-gains : Option ℕ → ℕ → Result (Unit {0}) TestRefusal

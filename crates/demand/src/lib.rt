@@ -13,6 +13,7 @@ mod row_sheet;
 mod sheet;
 mod sheet_binder;
 mod side_by_side;
+mod task;
 mod verdict;
 
 pub use admission::admission_test;
@@ -41,5 +42,8 @@ pub use sheet_binder::SheetBinder;
 pub use sheet_binder::asking::SheetBinderBinder;
 pub use side_by_side::SideBySide;
 pub use side_by_side::SideBySideBinder;
+pub use task::MakeRefusal;
+pub use task::MakeRefusalRefusal;
+pub use task::Task;
 pub use verdict::TestRefusal;
 pub use verdict::TestRefusalRefusal;

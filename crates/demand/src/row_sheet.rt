@@ -8,6 +8,7 @@ pub(crate) mod asking;
 mod bounds;
 pub(crate) mod making;
 pub(crate) mod reading;
+mod tasks;
 
 use crate::row::Row;
 

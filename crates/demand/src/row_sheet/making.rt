@@ -25,7 +25,7 @@ fn judge_fields(row: &Row, start: RecordStart, offset: u32) -> Result<(), FileFa
     accept(lies_in(1, 16, row.copies), start.at(offset + 6))
 }
 
-fn comes_before(a: &Row, b: &Row) -> bool
+pub(crate) fn comes_before(a: &Row, b: &Row) -> bool
     ensures { λ r. ⌜ r ≡ before (now (a .entry)) (now (b .entry)) ⌝ }
 {
     a.deadline < b.deadline
