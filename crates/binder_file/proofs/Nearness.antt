@@ -27,10 +27,10 @@ near-record m bs start h =
     let n = (length-at bs start - 2) / 2 in
     near-cond m (ends-inside bs start) _ _ (omega arith)
     (near-cond m (eqb (kind-at bs start) 1) _ _
-      (near-cond m (whole-fields (length-at bs start)) _ _ (rows-near m (fields-at bs (start .place + 4) n) start h) (omega arith))
-      (near-cond m (eqb (kind-at bs start) 2) _ _
-        (near-cond m (whole-fields (length-at bs start)) _ _ (line-near m (fields-at bs (start .place + 4) n) start h) (omega arith))
-        (omega arith)))
+    (near-cond m (whole-fields (length-at bs start)) _ _ (rows-near m (fields-at bs (start .place + 4) n) start h) (omega arith))
+    (near-cond m (eqb (kind-at bs start) 2) _ _
+    (near-cond m (whole-fields (length-at bs start)) _ _ (line-near m (fields-at bs (start .place + 4) n) start h) (omega arith))
+    (omega arith)))
 
 -- an accepted record has at most 84 bytes, so the fault of a file is never far
 near-records : (m most : ℕ) (bs : List ℕ) (start : RecordStart) → start .place + 84 * most + 68 ≤ m → Near m (records-from most bs start)
@@ -39,9 +39,9 @@ near-records m zero bs start h = near-cond m (ltb (start .place) (length bs)) (E
 near-records m (suc most) bs start h =
     near-cond m (ltb (start .place) (length bs)) _ (Ok [])
     (near-then-so m (record-judged bs start) _ (near-record m bs start (omega arith))
-      (λ d e.
-        let a = record-accepted bs start d e in
-        near-then m (records-from most bs (next-start bs start)) _ (near-records m most bs (next-start bs start) (omega (arith, a .size, a .few))) (λ _. tt)))
+    (λ d e.
+    let a = record-accepted bs start d e in
+    near-then m (records-from most bs (next-start bs start)) _ (near-records m most bs (next-start bs start) (omega (arith, a .size, a .few))) (λ _. tt)))
     tt
 
 near-file : (bs : List ℕ) → Near 65535 (decode bs)
@@ -63,16 +63,16 @@ count-most zero bs start ds e =
     (omega arith, λ h. absurd (omega (arith, ltb-false (start .place) (length bs) (p .0))))
 count-most (suc most) bs start ds e =
     ⊎-elim (λ (t : ltb (start .place) (length bs) ≡ true).
-      let q = sym (cond-true (ltb (start .place) (length bs)) _ _ t) ∙ e in
-      let p = then-went (record-judged bs start) (λ d. then (records-from most bs (next-start bs start)) (λ xs. Ok (d ∷ xs))) ds q in
-      let r = then-went (records-from most bs (next-start bs start)) (λ xs. Ok (p .0 ∷ xs)) ds (p .2) in
-      let n = ap (λ (l : List Declaration). length l) (same-ok (p .0 ∷ r .0) ds (r .2)) in
-      let rest = count-most most bs (next-start bs start) (r .0) (r .1) in
-      (omega (arith, rest .0), λ h. omega arith))
+    let q = sym (cond-true (ltb (start .place) (length bs)) _ _ t) ∙ e in
+    let p = then-went (record-judged bs start) (λ d. then (records-from most bs (next-start bs start)) (λ xs. Ok (d ∷ xs))) ds q in
+    let r = then-went (records-from most bs (next-start bs start)) (λ xs. Ok (p .0 ∷ xs)) ds (p .2) in
+    let n = ap (λ (l : List Declaration). length l) (same-ok (p .0 ∷ r .0) ds (r .2)) in
+    let rest = count-most most bs (next-start bs start) (r .0) (r .1) in
+    (omega (arith, rest .0), λ h. omega arith))
     (λ (f : ltb (start .place) (length bs) ≡ false).
-      let q = sym (cond-false (ltb (start .place) (length bs)) (then (record-judged bs start) (λ d. then (records-from most bs (next-start bs start)) (λ xs. Ok (d ∷ xs)))) (Ok []) f) ∙ e in
-      let n = ap (λ (l : List Declaration). length l) (same-ok [] ds q) in
-      (omega arith, λ h. absurd (omega (arith, ltb-false (start .place) (length bs) f))))
+    let q = sym (cond-false (ltb (start .place) (length bs)) (then (record-judged bs start) (λ d. then (records-from most bs (next-start bs start)) (λ xs. Ok (d ∷ xs)))) (Ok []) f) ∙ e in
+    let n = ap (λ (l : List Declaration). length l) (same-ok [] ds q) in
+    (omega arith, λ h. absurd (omega (arith, ltb-false (start .place) (length bs) f))))
     (cases-bool (ltb (start .place) (length bs)))
 
 pub file-counted : (bs : List ℕ) (ds : List Declaration) → decode bs ≡ Ok ds → (1 ≤ length ds) × (length ds ≤ 8)

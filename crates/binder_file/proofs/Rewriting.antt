@@ -43,7 +43,7 @@ fields-forth bs at (suc n) small h =
     let j : at + k + 1 ≡ at + (k + 1) = omega arith in
     let y : w / 256 ≡ getD tail (k + 1) 0 = omega (arith, small (at + k), small (at + k + 1), ap (λ m. getD bs m 0) j, getD-drop at bs (k + 1) 0) in
     let front : take (2 * suc n) tail ≡ (take k tail ++ getD tail k 0 ∷ []) ++ getD tail (k + 1) 0 ∷ [] =
-      ap (λ m. take m tail) e ∙ take-more tail (k + 1) 0 (omega arith) ∙ ap (λ (l : List ℕ). l ++ getD tail (k + 1) 0 ∷ []) (take-more tail k 0 (omega arith)) in
+    ap (λ m. take m tail) e ∙ take-more tail (k + 1) 0 (omega arith) ∙ ap (λ (l : List ℕ). l ++ getD tail (k + 1) 0 ∷ []) (take-more tail k 0 (omega arith)) in
     ap (λ m. joined word-bytes (fields-at bs at m)) (sym (add-one n))
     ∙ ap (λ (l : List ℕ). joined word-bytes l) (map-counting-more (λ i. word-at bs (at + 2 * i)) 0 n n (omega arith))
     ∙ sym (joined-more word-bytes [] (fields-at bs at n) w)
@@ -68,8 +68,13 @@ body-accepted judged bs start d n told k inside e =
     let even = eqb-true (length-at bs start % 2) 0 (w .1) in
     let t = told (fields-at bs (start .place + 4) m) (p .1) in
     let len : length (fields-of d) ≡ m = ap (λ (l : List ℕ). length l) (t .0) ∙ length-fields bs (start .place + 4) m in
-    record { inside = inside; kind = t .1 ∙ sym k; size = omega (arith, len, low, even); fields = t .0 ∙ ap (λ c. fields-at bs (start .place + 4) c) (sym len)
-      ; few = omega (arith, t .2, len, length-fields bs (start .place + 4) m) }
+    record {
+      inside = inside;
+      kind = t .1 ∙ sym k;
+      size = omega (arith, len, low, even);
+      fields = t .0 ∙ ap (λ c. fields-at bs (start .place + 4) c) (sym len);
+      few = omega (arith, t .2, len, length-fields bs (start .place + 4) m);
+    }
 
 kind-accepted : (bs : List ℕ) (start : RecordStart) (d : Declaration) (b c : Bool) → eqb (kind-at bs start) 1 ≡ b → eqb (kind-at bs start) 2 ≡ c → start .place + 2 + length-at bs start ≤ length bs → cond b (body-judged rows-record bs start) (cond c (body-judged line-record bs start) (Err (UnknownKind (spot start 0)))) ≡ Ok d → Accepted bs start d
 kind-accepted bs start d true c p q inside e = body-accepted rows-record bs start d 1 (λ fs f. rows-accepted fs start d f) (eqb-true (kind-at bs start) 1 p) inside e
@@ -106,19 +111,19 @@ records-forth zero bs start ds small e =
     ap encode (sym (same-ok [] ds (p .1))) ∙ sym (drop-all (start .place) bs (ltb-false (start .place) (length bs) (p .0)))
 records-forth (suc most) bs start ds small e =
     ⊎-elim (λ (t : ltb (start .place) (length bs) ≡ true).
-      let q = sym (cond-true (ltb (start .place) (length bs)) _ _ t) ∙ e in
-      let p = then-went (record-judged bs start) (λ d. then (records-from most bs (next-start bs start)) (λ xs. Ok (d ∷ xs))) ds q in
-      let r = then-went (records-from most bs (next-start bs start)) (λ xs. Ok (p .0 ∷ xs)) ds (p .2) in
-      let rest = records-forth most bs (next-start bs start) (r .0) small (r .1) in
-      let n = 2 + length-at bs start in
-      let z : start .place + 2 + length-at bs start ≡ start .place + n = omega arith in
-      ap encode (sym (same-ok (p .0 ∷ r .0) ds (r .2)))
-      ∙ ap (λ (l : List ℕ). l ++ encode (r .0)) (record-forth bs start (p .0) small (record-accepted bs start (p .0) (p .1)))
-      ∙ ap (λ (l : List ℕ). take n (drop (start .place) bs) ++ l) (rest ∙ ap (λ m. drop m bs) z ∙ sym (drop-drop n (start .place) bs))
-      ∙ take-append-drop n (drop (start .place) bs))
+    let q = sym (cond-true (ltb (start .place) (length bs)) _ _ t) ∙ e in
+    let p = then-went (record-judged bs start) (λ d. then (records-from most bs (next-start bs start)) (λ xs. Ok (d ∷ xs))) ds q in
+    let r = then-went (records-from most bs (next-start bs start)) (λ xs. Ok (p .0 ∷ xs)) ds (p .2) in
+    let rest = records-forth most bs (next-start bs start) (r .0) small (r .1) in
+    let n = 2 + length-at bs start in
+    let z : start .place + 2 + length-at bs start ≡ start .place + n = omega arith in
+    ap encode (sym (same-ok (p .0 ∷ r .0) ds (r .2)))
+    ∙ ap (λ (l : List ℕ). l ++ encode (r .0)) (record-forth bs start (p .0) small (record-accepted bs start (p .0) (p .1)))
+    ∙ ap (λ (l : List ℕ). take n (drop (start .place) bs) ++ l) (rest ∙ ap (λ m. drop m bs) z ∙ sym (drop-drop n (start .place) bs))
+    ∙ take-append-drop n (drop (start .place) bs))
     (λ (f : ltb (start .place) (length bs) ≡ false).
-      let q = sym (cond-false (ltb (start .place) (length bs)) (then (record-judged bs start) (λ d. then (records-from most bs (next-start bs start)) (λ xs. Ok (d ∷ xs)))) (Ok []) f) ∙ e in
-      ap encode (sym (same-ok [] ds q)) ∙ sym (drop-all (start .place) bs (ltb-false (start .place) (length bs) f)))
+    let q = sym (cond-false (ltb (start .place) (length bs)) (then (record-judged bs start) (λ d. then (records-from most bs (next-start bs start)) (λ xs. Ok (d ∷ xs)))) (Ok []) f) ∙ e in
+    ap encode (sym (same-ok [] ds q)) ∙ sym (drop-all (start .place) bs (ltb-false (start .place) (length bs) f)))
     (cases-bool (ltb (start .place) (length bs)))
 
 -- writing the sheets of an accepted file gives the file

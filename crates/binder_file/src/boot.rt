@@ -2,7 +2,6 @@ ghost use mathlib.Core.Path.{_≡_};
 ghost use Prim.Native.Nat.{_/_, _%_, _<_, _≤_};
 ghost use Rattle.binder_file.specs.Boot.{boot-parts, boot-number};
 ghost use Rattle.binder_file.specs.Format.{decode};
-
 use crate::reading::read_file;
 use demand::SheetBinder;
 use demand::SheetBinderBinder;

@@ -1,7 +1,6 @@
 ghost use mathlib.Core.List.{List};
 ghost use mathlib.Core.Path.{_≡_};
 ghost use Rattle.binder_file.specs.Writing.{write-number};
-
 use demand::Refusal;
 
 // Why a binder is not written.

@@ -9,7 +9,6 @@ ghost use Rattle.demand.specs.Sheets.{declared, declarations};
 ghost use Rattle.binder_file.specs.Format.{word-bytes, record-bytes, decode};
 ghost use Rattle.binder_file.specs.Writing.{encode, write-judged};
 ghost use Rattle.binder_file.specs.declared.refusal.WriteRefusal.{WriteRefusal};
-
 use crate::refusal::WriteRefusal;
 use demand::LineSheetKind;
 use demand::RowSheetKind;

@@ -150,12 +150,12 @@ unfolding first-where
 exceeded-within d l zero x e = let z : _≡_ {A = ℕ} 0 1 = cc in absurd (omega arith)
 exceeded-within d l (suc more) x e =
     ⊎-elim (λ (t : ltb l (d l) ≡ true).
-      let q : Some l ≡ Some x = sym (cond-true (ltb l (d l)) (Some l) (first-exceeded d (l + 1) more) t) ∙ e in
-      let same : l ≡ x = cc in
-      omega arith)
+    let q : Some l ≡ Some x = sym (cond-true (ltb l (d l)) (Some l) (first-exceeded d (l + 1) more) t) ∙ e in
+    let same : l ≡ x = cc in
+    omega arith)
     (λ (f : ltb l (d l) ≡ false).
-      let q = exceeded-within d (l + 1) more x (sym (cond-false (ltb l (d l)) (Some l) (first-exceeded d (l + 1) more) f) ∙ e) in
-      omega arith)
+    let q = exceeded-within d (l + 1) more x (sym (cond-false (ltb l (d l)) (Some l) (first-exceeded d (l + 1) more) f) ∙ e) in
+    omega arith)
     (cases-bool (ltb l (d l)))
 
 gains-numbers : (o : Option ℕ) (gains : ℕ) → ((x : ℕ) → o ≡ Some x → x ≤ 8192) → (verdict-numbers (by-gains o gains) .0 ≤ 9) × (verdict-numbers (by-gains o gains) .1 ≤ 8192)

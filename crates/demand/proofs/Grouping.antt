@@ -88,18 +88,20 @@ lead-front t r rs a b h = by-lead t r rs a b ∙ ap (λ (l : List Row). t ∷ l)
 all-before : (x t : Row) (rs : List Row) → before x t ≡ true → All (λ s. before x s ≡ true) rs → All (λ s. before x s ≡ true) (placed t rs)
 all-before x t [] b a = (b, tt)
 all-before x t (r ∷ rs) b a =
-    elim (way t r)
-    [ joins p ↦ subst (λ (l : List Row). All (λ s. before x s ≡ true) l) (sym (by-join t r rs p)) (a .0, a .1)
-    | leads p q ↦ subst (λ (l : List Row). All (λ s. before x s ≡ true) l) (sym (by-lead t r rs p q)) (b, all-before x r rs (a .0) (a .1))
-    | follows p q n ↦ subst (λ (l : List Row). All (λ s. before x s ≡ true) l) (sym (by-follow t r rs p n)) (a .0, all-before x t rs b (a .1)) ]
+    elim (way t r) [
+      | joins p ↦ subst (λ (l : List Row). All (λ s. before x s ≡ true) l) (sym (by-join t r rs p)) (a .0, a .1)
+      | leads p q ↦ subst (λ (l : List Row). All (λ s. before x s ≡ true) l) (sym (by-lead t r rs p q)) (b, all-before x r rs (a .0) (a .1))
+      | follows p q n ↦ subst (λ (l : List Row). All (λ s. before x s ≡ true) l) (sym (by-follow t r rs p n)) (a .0, all-before x t rs b (a .1))
+    ]
 
 pub placed-ascending : (t : Row) (rs : List Row) → Ascending rs → Ascending (placed t rs)
 placed-ascending t [] h = (tt, tt)
 placed-ascending t (r ∷ rs) h =
-    elim (way t r)
-    [ joins p ↦ subst Ascending (sym (by-join t r rs p)) (h .0, h .1)
-    | leads p q ↦ subst Ascending (sym (lead-front t r rs p q h)) ((q, before-all t r rs q (h .0)), h)
-    | follows p q n ↦ subst Ascending (sym (by-follow t r rs p n)) (all-before r t rs q (h .0), placed-ascending t rs (h .1)) ]
+    elim (way t r) [
+      | joins p ↦ subst Ascending (sym (by-join t r rs p)) (h .0, h .1)
+      | leads p q ↦ subst Ascending (sym (lead-front t r rs p q h)) ((q, before-all t r rs q (h .0)), h)
+      | follows p q n ↦ subst Ascending (sym (by-follow t r rs p n)) (all-before r t rs q (h .0), placed-ascending t rs (h .1))
+    ]
 
 -- copies of t are added, and no others
 copies-cons : (k r : Row) (rs : List Row) → copies-of k (r ∷ rs) ≡ cond (alike k r) (r .copies) 0 + copies-of k rs
@@ -112,29 +114,32 @@ two-copies false m n = refl
 pub placed-copies : (k t : Row) (rs : List Row) → copies-of k (placed t rs) ≡ copies-of k rs + cond (alike k t) (t .copies) 0
 placed-copies k t [] = omega (arith, copies-cons k t [])
 placed-copies k t (r ∷ rs) =
-    elim (way t r)
-    [ joins p ↦
-        let e = two-copies (alike k r) (r .copies) (t .copies) in
-        let s = ap (λ (b : Bool). cond b (t .copies) 0) (alike-through k r t p) in
-        omega (arith, ap (copies-of k) (by-join t r rs p), copies-cons k (joined-copies r t) rs, copies-cons k r rs, e, s)
-    | leads p q ↦ omega (arith, ap (copies-of k) (by-lead t r rs p q), copies-cons k t (placed r rs), copies-cons k r rs, placed-copies k r rs)
-    | follows p q n ↦ omega (arith, ap (copies-of k) (by-follow t r rs p n), copies-cons k r (placed t rs), copies-cons k r rs, placed-copies k t rs) ]
+    elim (way t r) [
+      | joins p ↦
+          let e = two-copies (alike k r) (r .copies) (t .copies) in
+          let s = ap (λ (b : Bool). cond b (t .copies) 0) (alike-through k r t p) in
+          omega (arith, ap (copies-of k) (by-join t r rs p), copies-cons k (joined-copies r t) rs, copies-cons k r rs, e, s)
+      | leads p q ↦ omega (arith, ap (copies-of k) (by-lead t r rs p q), copies-cons k t (placed r rs), copies-cons k r rs, placed-copies k r rs)
+      | follows p q n ↦ omega (arith, ap (copies-of k) (by-follow t r rs p n), copies-cons k r (placed t rs), copies-cons k r rs, placed-copies k t rs)
+    ]
 
 -- what holds of every row and of t holds with t among them, if it holds of a row that t joins
 pub placed-all : (P : Row → Type 0) (t : Row) (rs : List Row) → Ascending rs → P t → All (λ r. P r × (alike r t ≡ true → P (joined-copies r t))) rs → All P (placed t rs)
 placed-all P t [] h p a = (p, tt)
 placed-all P t (r ∷ rs) h p a =
-    elim (way t r)
-    [ joins q ↦ subst (All P) (sym (by-join t r rs q)) (a .0 .1 q, all-weaker (λ s. P s × (alike s t ≡ true → P (joined-copies s t))) P (λ s x. x .0) rs (a .1))
-    | leads q b ↦ subst (All P) (sym (lead-front t r rs q b h)) (p, (a .0 .0, all-weaker (λ s. P s × (alike s t ≡ true → P (joined-copies s t))) P (λ s x. x .0) rs (a .1)))
-    | follows q b n ↦ subst (All P) (sym (by-follow t r rs q n)) (a .0 .0, placed-all P t rs (h .1) p (a .1)) ]
+    elim (way t r) [
+      | joins q ↦ subst (All P) (sym (by-join t r rs q)) (a .0 .1 q, all-weaker (λ s. P s × (alike s t ≡ true → P (joined-copies s t))) P (λ s x. x .0) rs (a .1))
+      | leads q b ↦ subst (All P) (sym (lead-front t r rs q b h)) (p, (a .0 .0, all-weaker (λ s. P s × (alike s t ≡ true → P (joined-copies s t))) P (λ s x. x .0) rs (a .1)))
+      | follows q b n ↦ subst (All P) (sym (by-follow t r rs q n)) (a .0 .0, placed-all P t rs (h .1) p (a .1))
+    ]
 
 -- no row like t has more copies than all of them together
 pub copies-most : (t : Row) (rs : List Row) → All (λ r. alike r t ≡ true → r .copies ≤ copies-of t rs) rs
 copies-most t [] = tt
-copies-most t (r ∷ rs) =
-    ( (λ a. omega (arith, copies-cons t r rs, cond-true {A = ℕ} (alike t r) (r .copies) 0 (alike-swap r t a)))
-    , all-weaker (λ s. alike s t ≡ true → s .copies ≤ copies-of t rs) (λ s. alike s t ≡ true → s .copies ≤ copies-of t (r ∷ rs)) (λ s f a. omega (arith, f a, copies-cons t r rs)) rs (copies-most t rs) )
+copies-most t (r ∷ rs) = (
+  (λ a. omega (arith, copies-cons t r rs, cond-true {A = ℕ} (alike t r) (r .copies) 0 (alike-swap r t a))),
+  all-weaker (λ s. alike s t ≡ true → s .copies ≤ copies-of t rs) (λ s. alike s t ≡ true → s .copies ≤ copies-of t (r ∷ rs)) (λ s f a. omega (arith, f a, copies-cons t r rs)) rs (copies-most t rs),
+)
 
 -- a row is new exactly where none like it has copies
 none-alike : (t : Row) (rs : List Row) → All (λ s. before t s ≡ true) rs → copies-of t rs ≡ 0
@@ -144,18 +149,19 @@ none-alike t (r ∷ rs) a = omega (arith, copies-cons t r rs, cond-false {A = �
 pub placed-length : (t : Row) (rs : List Row) → Ascending rs → All (λ r. 1 ≤ r .copies) rs → length (placed t rs) ≡ length rs + cond (eqb (copies-of t rs) 0) 1 0
 placed-length t [] h a = refl
 placed-length t (r ∷ rs) h a =
-    elim (way t r)
-    [ joins p ↦
-        let c = cond-true {A = ℕ} (alike t r) (r .copies) 0 (alike-swap r t p) in
-        let n : eqb (copies-of t (r ∷ rs)) 0 ≡ false = ne-eqb (copies-of t (r ∷ rs)) 0 (λ z. omega (arith, z, c, copies-cons t r rs, a .0)) in
-        omega (arith, ap (λ (l : List Row). length l) (by-join t r rs p), cond-false {A = ℕ} (eqb (copies-of t (r ∷ rs)) 0) 1 0 n)
-    | leads p q ↦
-        let n : eqb (copies-of t (r ∷ rs)) 0 ≡ true = eq-eqb (copies-of t (r ∷ rs)) 0 (none-alike t (r ∷ rs) (q, before-all t r rs q (h .0))) in
-        omega (arith, ap (λ (l : List Row). length l) (lead-front t r rs p q h), cond-true {A = ℕ} (eqb (copies-of t (r ∷ rs)) 0) 1 0 n)
-    | follows p q n ↦
-        let c = cond-false {A = ℕ} (alike t r) (r .copies) 0 (not-alike-back r t q) in
-        let e : copies-of t (r ∷ rs) ≡ copies-of t rs = omega (arith, c, copies-cons t r rs) in
-        omega (arith, ap (λ (l : List Row). length l) (by-follow t r rs p n), placed-length t rs (h .1) (a .1), ap (λ m. cond {A = ℕ} (eqb m 0) 1 0) e) ]
+    elim (way t r) [
+      | joins p ↦
+          let c = cond-true {A = ℕ} (alike t r) (r .copies) 0 (alike-swap r t p) in
+          let n : eqb (copies-of t (r ∷ rs)) 0 ≡ false = ne-eqb (copies-of t (r ∷ rs)) 0 (λ z. omega (arith, z, c, copies-cons t r rs, a .0)) in
+          omega (arith, ap (λ (l : List Row). length l) (by-join t r rs p), cond-false {A = ℕ} (eqb (copies-of t (r ∷ rs)) 0) 1 0 n)
+      | leads p q ↦
+          let n : eqb (copies-of t (r ∷ rs)) 0 ≡ true = eq-eqb (copies-of t (r ∷ rs)) 0 (none-alike t (r ∷ rs) (q, before-all t r rs q (h .0))) in
+          omega (arith, ap (λ (l : List Row). length l) (lead-front t r rs p q h), cond-true {A = ℕ} (eqb (copies-of t (r ∷ rs)) 0) 1 0 n)
+      | follows p q n ↦
+          let c = cond-false {A = ℕ} (alike t r) (r .copies) 0 (not-alike-back r t q) in
+          let e : copies-of t (r ∷ rs) ≡ copies-of t rs = omega (arith, c, copies-cons t r rs) in
+          omega (arith, ap (λ (l : List Row). length l) (by-follow t r rs p n), placed-length t rs (h .1) (a .1), ap (λ m. cond {A = ℕ} (eqb m 0) 1 0) e)
+    ]
 
 how-many-more : (k t : Row) (ks : List Row) → t .copies ≡ 1 → how-many k (ks ++ t ∷ []) ≡ how-many k ks + cond (alike k t) (t .copies) 0
 how-many-more k t ks e =
@@ -165,9 +171,11 @@ how-many-more k t ks e =
 -- one task more
 pub grouped-more : (ks rs : List Row) (t : Row) → t .copies ≡ 1 → Grouped ks rs → Grouped (ks ++ t ∷ []) (placed t rs)
 grouped-more ks rs t e g =
-    record { ordered = placed-ascending t rs (g .ordered)
-      ; present = placed-all (λ r. 1 ≤ r .copies) t rs (g .ordered) (omega arith) (all-weaker (λ r. 1 ≤ r .copies) (λ r. (1 ≤ r .copies) × (alike r t ≡ true → 1 ≤ r .copies + t .copies)) (λ r h. (h, λ _. omega arith)) rs (g .present))
-      ; counted = λ k. omega (arith, placed-copies k t rs, g .counted k, how-many-more k t ks e) }
+    record {
+      ordered = placed-ascending t rs (g .ordered);
+      present = placed-all (λ r. 1 ≤ r .copies) t rs (g .ordered) (omega arith) (all-weaker (λ r. 1 ≤ r .copies) (λ r. (1 ≤ r .copies) × (alike r t ≡ true → 1 ≤ r .copies + t .copies)) (λ r h. (h, λ _. omega arith)) rs (g .present));
+      counted = λ k. omega (arith, placed-copies k t rs, g .counted k, how-many-more k t ks e);
+    }
 
 -- there is only one way to group
 behind-none : (t r : Row) (rs : List Row) → before t r ≡ true → All (λ s. before r s ≡ true) rs → copies-of t (r ∷ rs) ≡ 0
@@ -185,13 +193,14 @@ before-like s r ss p a = all-weaker (λ x. before s x ≡ true) (λ x. before r 
 
 head-same : (r s : Row) (rs ss : List Row) → Ascending (r ∷ rs) → Ascending (s ∷ ss) → 1 ≤ r .copies → 1 ≤ s .copies → ((k : Row) → copies-of k (r ∷ rs) ≡ copies-of k (s ∷ ss)) → r ≡ s
 head-same r s rs ss a b m n e =
-    elim (way r s)
-    [ joins p ↦
-        let q = alike-parts s r p in
-        let c : r .copies ≡ s .copies = omega (arith, own-copies r rs (a .0), own-copies s ss (b .0), e r, copies-cons r s ss, cond-true {A = ℕ} (alike r s) (s .copies) 0 (alike-swap s r p), none-alike r ss (before-like s r ss p (b .0))) in
-        same-row r s (sym (q .0)) (sym (q .1)) (sym (q .2)) c
-    | leads p q ↦ absurd (omega (arith, behind-none r s ss q (b .0), own-copies r rs (a .0), e r))
-    | follows p q z ↦ absurd (omega (arith, behind-none s r rs q (a .0), own-copies s ss (b .0), e s)) ]
+    elim (way r s) [
+      | joins p ↦
+          let q = alike-parts s r p in
+          let c : r .copies ≡ s .copies = omega (arith, own-copies r rs (a .0), own-copies s ss (b .0), e r, copies-cons r s ss, cond-true {A = ℕ} (alike r s) (s .copies) 0 (alike-swap s r p), none-alike r ss (before-like s r ss p (b .0))) in
+          same-row r s (sym (q .0)) (sym (q .1)) (sym (q .2)) c
+      | leads p q ↦ absurd (omega (arith, behind-none r s ss q (b .0), own-copies r rs (a .0), e r))
+      | follows p q z ↦ absurd (omega (arith, behind-none s r rs q (a .0), own-copies s ss (b .0), e s))
+    ]
 
 pub one-grouping : (rs ss : List Row) → Ascending rs → Ascending ss → All (λ r. 1 ≤ r .copies) rs → All (λ r. 1 ≤ r .copies) ss → ((k : Row) → copies-of k rs ≡ copies-of k ss) → rs ≡ ss
 one-grouping [] [] a b m n e = refl

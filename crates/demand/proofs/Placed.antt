@@ -33,19 +33,19 @@ module _ (rs : List Row) (i len : ℕ) (d : Row) (here : i < len) (room : len �
   place-step carried slot next s n a =
       let rest = drop (i + 1) (take len rs) in
       let w : take (i + 1) (set rs i slot) ++ placed next (drop (i + 1) (take len (set rs i slot))) ≡ take i rs ++ (slot ∷ placed next rest) =
-        ap (λ (l : List Row). l ++ placed next (drop (i + 1) (take len (set rs i slot)))) (written slot)
-        ∙ ap (λ (l : List Row). (take i rs ++ slot ∷ []) ++ placed next l) (rest-kept slot) ∙ append-assoc (take i rs) (slot ∷ []) (placed next rest) in
+      ap (λ (l : List Row). l ++ placed next (drop (i + 1) (take len (set rs i slot)))) (written slot)
+      ∙ ap (λ (l : List Row). (take i rs ++ slot ∷ []) ++ placed next l) (rest-kept slot) ∙ append-assoc (take i rs) (slot ∷ []) (placed next rest) in
       let v : placed carried (getD rs i d ∷ rest) ≡ slot ∷ placed next rest =
-        cond-false (alike (getD rs i d) carried) _ _ a
-        ∙ ⊎-elim (λ (t : before carried (getD rs i d) ≡ true).
-            let s′ = s ∙ cond-true (before carried (getD rs i d)) _ _ t in
-            let n′ = n ∙ cond-true (before carried (getD rs i d)) _ _ t in
-            cond-true (before carried (getD rs i d)) _ _ t ∙ ap (λ (x : Row). x ∷ placed (getD rs i d) rest) (sym s′) ∙ ap (λ (x : Row). slot ∷ placed x rest) (sym n′))
-          (λ (f : before carried (getD rs i d) ≡ false).
-            let s′ = s ∙ cond-false (before carried (getD rs i d)) _ _ f in
-            let n′ = n ∙ cond-false (before carried (getD rs i d)) _ _ f in
-            cond-false (before carried (getD rs i d)) _ _ f ∙ ap (λ (x : Row). x ∷ placed carried rest) (sym s′) ∙ ap (λ (x : Row). slot ∷ placed x rest) (sym n′))
-          (cases-bool (before carried (getD rs i d))) in
+      cond-false (alike (getD rs i d) carried) _ _ a
+      ∙ ⊎-elim (λ (t : before carried (getD rs i d) ≡ true).
+      let s′ = s ∙ cond-true (before carried (getD rs i d)) _ _ t in
+      let n′ = n ∙ cond-true (before carried (getD rs i d)) _ _ t in
+      cond-true (before carried (getD rs i d)) _ _ t ∙ ap (λ (x : Row). x ∷ placed (getD rs i d) rest) (sym s′) ∙ ap (λ (x : Row). slot ∷ placed x rest) (sym n′))
+      (λ (f : before carried (getD rs i d) ≡ false).
+      let s′ = s ∙ cond-false (before carried (getD rs i d)) _ _ f in
+      let n′ = n ∙ cond-false (before carried (getD rs i d)) _ _ f in
+      cond-false (before carried (getD rs i d)) _ _ f ∙ ap (λ (x : Row). x ∷ placed carried rest) (sym s′) ∙ ap (λ (x : Row). slot ∷ placed x rest) (sym n′))
+      (cases-bool (before carried (getD rs i d))) in
       ap (λ (l : List Row). take i rs ++ placed carried l) rest-held ∙ ap (λ (l : List Row). take i rs ++ l) v ∙ sym w
 
   -- a row is joined

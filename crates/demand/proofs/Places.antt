@@ -69,10 +69,10 @@ near-rows m last (r ∷ rs) start offset h =
 near-judged : (m : ℕ) (rs : List Row) (start : RecordStart) → start .place + 68 ≤ m → Near m (rows-judged rs start)
 near-judged m rs start h =
     ⊎-elim (λ (t : from-to 1 8 (length rs) ≡ true).
-      let few = range-from 1 8 (length rs) t .1 in
-      rw (cond-true (from-to 1 8 (length rs)) (rows-from None rs start 4) (Err (WrongLength (spot start 0))) t) (near-rows m None rs start 4 (omega arith)))
+    let few = range-from 1 8 (length rs) t .1 in
+    rw (cond-true (from-to 1 8 (length rs)) (rows-from None rs start 4) (Err (WrongLength (spot start 0))) t) (near-rows m None rs start 4 (omega arith)))
     (λ (f : from-to 1 8 (length rs) ≡ false).
-      rw (cond-false (from-to 1 8 (length rs)) (rows-from None rs start 4) (Err (WrongLength (spot start 0))) f) (omega arith))
+    rw (cond-false (from-to 1 8 (length rs)) (rows-from None rs start 4) (Err (WrongLength (spot start 0))) f) (omega arith))
     (cases-bool (from-to 1 8 (length rs)))
 
 -- a fault in a record lies within 68 bytes of its start
@@ -85,9 +85,9 @@ line-near m fs start h =
     let x = line-in fs in
     near-cond m (eqb (length fs) 4) _ _
     (near-then m (line-judged x start) _
-      (near-then m (field (from-to 1 4096 (x .deadline)) (spot start 4)) _ (near-field m (from-to 1 4096 (x .deadline)) start 4 (omega arith)) (λ _.
-      near-then m (field (leb (x .burst) 4096) (spot start 6)) _ (near-field m (leb (x .burst) 4096) start 6 (omega arith)) (λ _.
-      near-then m (field (power-of-two (x .per)) (spot start 8)) _ (near-field m (power-of-two (x .per)) start 8 (omega arith)) (λ _.
-      near-field m (leb (x .rate) (x .per)) start 10 (omega arith)))))
-      (λ _. tt))
+    (near-then m (field (from-to 1 4096 (x .deadline)) (spot start 4)) _ (near-field m (from-to 1 4096 (x .deadline)) start 4 (omega arith)) (λ _.
+    near-then m (field (leb (x .burst) 4096) (spot start 6)) _ (near-field m (leb (x .burst) 4096) start 6 (omega arith)) (λ _.
+    near-then m (field (power-of-two (x .per)) (spot start 8)) _ (near-field m (power-of-two (x .per)) start 8 (omega arith)) (λ _.
+    near-field m (leb (x .rate) (x .per)) start 10 (omega arith)))))
+    (λ _. tt))
     (omega arith)

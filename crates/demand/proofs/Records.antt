@@ -125,10 +125,10 @@ rows-forth fs (suc n) h =
     let two : k + 1 + 1 ≡ k + 2 = omega arith in
     let three : k + 1 + 1 + 1 ≡ k + 3 = omega arith in
     let front : take (4 * suc n) fs ≡ (((take k fs ++ getD fs k 0 ∷ []) ++ getD fs (k + 1) 0 ∷ []) ++ getD fs (k + 2) 0 ∷ []) ++ getD fs (k + 3) 0 ∷ [] =
-      ap (λ m. take m fs) e ∙ take-more fs (k + 1 + 1 + 1) 0 (omega arith)
-      ∙ ap (λ (l : List ℕ). l ++ getD fs (k + 1 + 1 + 1) 0 ∷ []) (take-more fs (k + 1 + 1) 0 (omega arith) ∙ ap (λ (l : List ℕ). l ++ getD fs (k + 1 + 1) 0 ∷ []) (take-more fs (k + 1) 0 (omega arith) ∙ ap (λ (l : List ℕ). l ++ getD fs (k + 1) 0 ∷ []) (take-more fs k 0 (omega arith))))
-      ∙ ap (λ m. (((take k fs ++ getD fs k 0 ∷ []) ++ getD fs (k + 1) 0 ∷ []) ++ getD fs m 0 ∷ []) ++ getD fs (k + 1 + 1 + 1) 0 ∷ []) two
-      ∙ ap (λ m. (((take k fs ++ getD fs k 0 ∷ []) ++ getD fs (k + 1) 0 ∷ []) ++ getD fs (k + 2) 0 ∷ []) ++ getD fs m 0 ∷ []) three in
+    ap (λ m. take m fs) e ∙ take-more fs (k + 1 + 1 + 1) 0 (omega arith)
+    ∙ ap (λ (l : List ℕ). l ++ getD fs (k + 1 + 1 + 1) 0 ∷ []) (take-more fs (k + 1 + 1) 0 (omega arith) ∙ ap (λ (l : List ℕ). l ++ getD fs (k + 1 + 1) 0 ∷ []) (take-more fs (k + 1) 0 (omega arith) ∙ ap (λ (l : List ℕ). l ++ getD fs (k + 1) 0 ∷ []) (take-more fs k 0 (omega arith))))
+    ∙ ap (λ m. (((take k fs ++ getD fs k 0 ∷ []) ++ getD fs (k + 1) 0 ∷ []) ++ getD fs m 0 ∷ []) ++ getD fs (k + 1 + 1 + 1) 0 ∷ []) two
+    ∙ ap (λ m. (((take k fs ++ getD fs k 0 ∷ []) ++ getD fs (k + 1) 0 ∷ []) ++ getD fs (k + 2) 0 ∷ []) ++ getD fs m 0 ∷ []) three in
     ap (λ m. joined row-fields-of (map (row-at fs) (counting 0 m))) (sym (add-one n))
     ∙ ap (λ (l : List Row). joined row-fields-of l) (map-counting-more (row-at fs) 0 n n (omega arith))
     ∙ sym (joined-more row-fields-of [] (map (row-at fs) (counting 0 n)) (row-at fs n))
@@ -151,10 +151,11 @@ rows-accepted fs start d e =
     let few = passed (from-to 1 8 (length (rows-in fs))) (rows-from None (rows-in fs) start 4) (WrongLength (spot start 0)) (q .0) (q .1) in
     let s = same-ok (rows (rows-in fs)) d (q .2) in
     let n = eqb-true (length fs % 4) 0 (p .0) in
-    let m : 4 * (length fs / 4) ≡ length fs = omega arith in
-    ( ap fields-of (sym s) ∙ rows-forth fs (length fs / 4) (omega arith) ∙ take-all (4 * (length fs / 4)) fs (omega arith)
-    , ap kind-of (sym s)
-    , omega (arith, range-from 1 8 (length (rows-in fs)) (few .0) .1, length-rows-in fs) )
+    let m : 4 * (length fs / 4) ≡ length fs = omega arith in (
+      ap fields-of (sym s) ∙ rows-forth fs (length fs / 4) (omega arith) ∙ take-all (4 * (length fs / 4)) fs (omega arith),
+      ap kind-of (sym s),
+      omega (arith, range-from 1 8 (length (rows-in fs)) (few .0) .1, length-rows-in fs),
+    )
 
 pub line-accepted : (fs : List ℕ) (start : RecordStart) (d : Declaration) → line-record fs start ≡ Ok d → (fields-of d ≡ fs) × (kind-of d ≡ 2) × (length fs ≤ 40)
 line-accepted fs start d e =

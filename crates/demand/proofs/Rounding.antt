@@ -50,11 +50,11 @@ below-climbs : (e x y : ℕ) → x ≤ y → power-below e x ≤ power-below e y
 below-climbs zero x y h = omega arith
 below-climbs (suc e) x y h =
     ⊎-elim (λ (t : leb (2 ^ suc e) y ≡ true).
-      let m : 2 ^ e ≤ 2 ^ suc e = pow-mono (omega arith) in
-      omega (arith, cond-true {A = ℕ} (leb (2 ^ suc e) y) (2 ^ suc e) (power-below e y) t, below-most (suc e) x))
+    let m : 2 ^ e ≤ 2 ^ suc e = pow-mono (omega arith) in
+    omega (arith, cond-true {A = ℕ} (leb (2 ^ suc e) y) (2 ^ suc e) (power-below e y) t, below-most (suc e) x))
     (λ (f : leb (2 ^ suc e) y ≡ false).
-      let g : leb (2 ^ suc e) x ≡ false = lt-leb (2 ^ suc e) x (omega (arith, leb-false (2 ^ suc e) y f)) in
-      omega (arith, cond-false {A = ℕ} (leb (2 ^ suc e) y) (2 ^ suc e) (power-below e y) f, cond-false {A = ℕ} (leb (2 ^ suc e) x) (2 ^ suc e) (power-below e x) g, below-climbs e x y h))
+    let g : leb (2 ^ suc e) x ≡ false = lt-leb (2 ^ suc e) x (omega (arith, leb-false (2 ^ suc e) y f)) in
+    omega (arith, cond-false {A = ℕ} (leb (2 ^ suc e) y) (2 ^ suc e) (power-below e y) f, cond-false {A = ℕ} (leb (2 ^ suc e) x) (2 ^ suc e) (power-below e x) g, below-climbs e x y h))
     (cases-bool (leb (2 ^ suc e) y))
 
 in-range : (low high x : ℕ) → low ≤ x → x ≤ high → from-to low high x ≡ true

@@ -41,12 +41,12 @@ unfolding first-where
 none-pass test n zero e i p q = absurd (omega arith)
 none-pass test n (suc more) e i p q =
     ⊎-elim (λ (t : test n ≡ true).
-      let s : Some n ≡ None = sym (cond-true (test n) (Some n) (first-where test (n + 1) more) t) ∙ e in
-      let z : _≡_ {A = ℕ} 0 1 = cc in absurd (omega arith))
+    let s : Some n ≡ None = sym (cond-true (test n) (Some n) (first-where test (n + 1) more) t) ∙ e in
+    let z : _≡_ {A = ℕ} 0 1 = cc in absurd (omega arith))
     (λ (f : test n ≡ false).
-      ⊎-elim (λ (l : n < i). none-pass test (n + 1) more (sym (cond-false (test n) (Some n) (first-where test (n + 1) more) f) ∙ e) i (omega arith) (omega arith))
-      (λ (l : i ≤ n). let s : n ≡ i = omega arith in ap test (sym s) ∙ f)
-      (cases-lt n i))
+    ⊎-elim (λ (l : n < i). none-pass test (n + 1) more (sym (cond-false (test n) (Some n) (first-where test (n + 1) more) f) ∙ e) i (omega arith) (omega arith))
+    (λ (l : i ≤ n). let s : n ≡ i = omega arith in ap test (sym s) ∙ f)
+    (cases-lt n i))
     (cases-bool (test n))
 
 accepted-none : (refusal : ℕ → MakeRefusal) (o : Option ℕ) → refused-by refusal o ≡ Ok tt → o ≡ None
@@ -64,8 +64,11 @@ tasks-accepted ts e =
     let a = not-caught (eqb (length ts) 0) _ (TaskOutOfRange 0) tt e in
     let b = not-caught (ltb 64 (length ts)) _ (TaskOutOfRange 64) tt (a .1) in
     let n = accepted-none TaskOutOfRange _ (b .1) in
-    record { some = omega (arith, eqb-false (length ts) 0 (a .0)); few = ltb-false 64 (length ts) (b .0)
-      ; ranged = λ i h. rounded-ranges (getD ts i no-task) (not-false (task-sound (getD ts i no-task)) (none-pass (λ k. not (task-sound (getD ts k no-task))) 0 (length ts) n i (omega arith) (omega arith))) }
+    record {
+      some = omega (arith, eqb-false (length ts) 0 (a .0));
+      few = ltb-false 64 (length ts) (b .0);
+      ranged = λ i h. rounded-ranges (getD ts i no-task) (not-false (task-sound (getD ts i no-task)) (none-pass (λ k. not (task-sound (getD ts k no-task))) 0 (length ts) n i (omega arith) (omega arith)));
+    }
 
 -- the rows rs hold the first i rounded tasks
 pub record Filled (ks : List Row) (i : ℕ) (rs : List Row) : Type 0 where
@@ -108,7 +111,7 @@ module _ (ks : List Row) (i : ℕ) (rs : List Row) (t : Row) (f : Filled ks i rs
   pub crowded-is : crowded ks i ≡ no-room (copies-of t rs) (length rs)
   crowded-is =
       let own : how-many (getD ks i no-row) (take (i + 1) ks) ≡ copies-of t rs + 1 =
-        ap (λ (x : Row). how-many x (take (i + 1) ks)) is ∙ ap (λ (l : List Row). how-many t l) front ∙ how-many-own t (take i ks) ∙ ap (λ n. n + 1) (sym (f .grouped .counted t)) in
+      ap (λ (x : Row). how-many x (take (i + 1) ks)) is ∙ ap (λ (l : List Row). how-many t l) front ∙ how-many-own t (take i ks) ∙ ap (λ n. n + 1) (sym (f .grouped .counted t)) in
       ap (λ n. ltb 8 n || ltb 16 (how-many (getD ks i no-row) (take (i + 1) ks))) more-different
       ∙ ap (λ n. ltb 8 (length rs + cond (eqb (copies-of t rs) 0) 1 0) || ltb 16 n) own
       ∙ room-math (copies-of t rs) (length rs) (f .few)
@@ -122,12 +125,14 @@ module _ (ks : List Row) (i : ℕ) (rs : List Row) (t : Row) (f : Filled ks i rs
         let g = f .grouped in
         let fit = fits-math (copies-of t rs) (length rs) (f .few) room .1 in
         let together : All (λ r. (row-ranges r ≡ true) × ((1 ≤ r .copies) × (alike r t ≡ true → r .copies ≤ copies-of t rs))) rs = all-both (λ r. row-ranges r ≡ true) (λ r. (1 ≤ r .copies) × (alike r t ≡ true → r .copies ≤ copies-of t rs)) rs (f .ranged) (all-both (λ r. 1 ≤ r .copies) (λ r. alike r t ≡ true → r .copies ≤ copies-of t rs) rs (g .present) (copies-most t rs)) in
-        record { grouped = subst (λ (l : List Row). Grouped l (placed t rs)) (sym front) (grouped-more (take i ks) rs t one g)
-          ; sized = placed-length t rs (g .ordered) (g .present) ∙ sym more-different
-          ; few = placed-few
-          ; ranged = placed-all (λ r. row-ranges r ≡ true) t rs (g .ordered) ranged
+        record {
+          grouped = subst (λ (l : List Row). Grouped l (placed t rs)) (sym front) (grouped-more (take i ks) rs t one g);
+          sized = placed-length t rs (g .ordered) (g .present) ∙ sym more-different;
+          few = placed-few;
+          ranged = placed-all (λ r. row-ranges r ≡ true) t rs (g .ordered) ranged
               (all-weaker (λ r. (row-ranges r ≡ true) × ((1 ≤ r .copies) × (alike r t ≡ true → r .copies ≤ copies-of t rs))) (λ r. (row-ranges r ≡ true) × (alike r t ≡ true → row-ranges (joined-copies r t) ≡ true))
-                (λ r h. (h .0, λ a. joined-ranges r (r .copies + t .copies) (h .0) (omega arith) (omega (arith, h .1 .1 a)))) rs together) }
+              (λ r h. (h .0, λ a. joined-ranges r (r .copies + t .copies) (h .0) (omega arith) (omega (arith, h .1 .1 a)))) rs together);
+        }
 
 -- all tasks are placed: a sound sheet
 grouped-some : (ks rs : List Row) → 1 ≤ length ks → Grouped ks rs → 1 ≤ length rs
@@ -141,6 +146,7 @@ all-follow (r ∷ rs) = (refl, all-follow rs)
 
 pub filled-sound : (ks rs : List Row) (i : ℕ) → length ks ≤ i → 1 ≤ length ks → Filled ks i rs → (sound-rows rs ≡ true) × Grouped ks rs
 filled-sound ks rs i h some f =
-    let g = subst (λ (l : List Row). Grouped l rs) (take-all i ks h) (f .grouped) in
-    ( judged-ok rs (record { index = 0; place = 0 }) ∙ and-from _ _ (and-from _ _ (le-leb 1 (length rs) (grouped-some ks rs some g)) (le-leb (length rs) 8 (f .few))) (fine-from None rs (f .ranged) (all-follow rs) (g .ordered))
-    , g )
+    let g = subst (λ (l : List Row). Grouped l rs) (take-all i ks h) (f .grouped) in (
+      judged-ok rs (record { index = 0; place = 0 }) ∙ and-from _ _ (and-from _ _ (le-leb 1 (length rs) (grouped-some ks rs some g)) (le-leb (length rs) 8 (f .few))) (fine-from None rs (f .ranged) (all-follow rs) (g .ordered)),
+      g,
+    )

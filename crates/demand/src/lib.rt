@@ -34,6 +34,7 @@ pub use line_sheet::asking::LineSheetBinder;
 pub use line_sheet::reading::LineSheetKind;
 pub use refusal::Refusal;
 pub use row::Row;
+pub use row::RowPartialEq;
 pub use row_sheet::RowSheet;
 pub use row_sheet::asking::RowSheetBinder;
 pub use row_sheet::reading::RowSheetKind;

@@ -1,6 +1,5 @@
 ghost use mathlib.Core.Path.{_≡_};
 ghost use Rattle.demand.specs.Tasks.{make-numbers};
-
 use crate::refusal::Refusal;
 
 // One sporadic task as a supplier lists it: a job of at most `budget` units every `period` ticks at most, due `deadline` ticks

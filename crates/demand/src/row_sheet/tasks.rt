@@ -14,7 +14,6 @@ ghost use Rattle.demand.specs.declared.task.MakeRefusal.the-variants.{NoRoom};
 ghost use Rattle.demand.specs.Placing.{placed, no-room};
 ghost use Rattle.demand.specs.declared.row.Row.{Row};
 ghost use Rattle.demand.specs.declared.task.MakeRefusal.{MakeRefusal};
-
 use crate::fields::lies_in;
 use crate::row::Row;
 use crate::row_sheet::RowSheet;
@@ -55,7 +54,9 @@ fn round_up(x: u16) -> u16
 fn is_in_range(task: &Task) -> bool
     ensures { λ r. ⌜ r ≡ task-sound (now (task .entry)) ⌝ }
 {
-    lies_in(1, 8191, task.period) && lies_in(1, task.period, task.deadline) && lies_in(1, 4096, task.budget)
+    lies_in(1, 8191, task.period)
+        && lies_in(1, task.period, task.deadline)
+        && lies_in(1, 4096, task.budget)
 }
 
 // The row of the task alone.
@@ -82,7 +83,11 @@ fn copies_like(row: &Row, held: &Row) -> u64
     ensures value { λ r. ⌜ r ≡ cond (alike (now (row .entry)) (now (held .entry))) (now (held .entry) .copies) 0 ⌝ }
     ensures few { λ r. ⌜ r ≤ 65535 ⌝ }
 {
-    if are_alike(row, held) { held.copies as u64 } else { 0 }
+    if are_alike(row, held) {
+        held.copies as u64
+    } else {
+        0
+    }
 }
 
 // How many copies the rows like this one have together.
@@ -101,7 +106,11 @@ fn copies_held(row: &Row, rows: &[Row]) -> u64
 fn in_order(carried: Row, held: Row) -> (Row, Row)
     ensures { λ r. ⌜ r .0 ≡ cond (before carried held) carried held ⌝ ∗ ⌜ r .1 ≡ cond (before carried held) held carried ⌝ }
 {
-    if comes_before(&carried, &held) { (carried, held) } else { (held, carried) }
+    if comes_before(&carried, &held) {
+        (carried, held)
+    } else {
+        (held, carried)
+    }
 }
 
 // Puts a row among the first `len`, which stand in sheet order: to the row that it is like, or to its place. Answers how many

@@ -18,6 +18,8 @@ returns-in-Ok c =
     let p = parts-told (c .args .bytes .now) _ _ d (c .admission-test-number .ensures .verdict) in
     let n = ap (λ (x : ℕ × ℕ). x .0) (p .0) in
     let l = ap (λ (x : ℕ × ℕ). x .1) (p .0) in
-    record { value = c .pack .ensures ∙ sym (ap boot-number (p .0))
-      ; told-apart = (omega (arith, c .pack .ensures, n, p .2), omega (arith, c .pack .ensures, l, p .2))
-      ; never-ten = λ z. omega (arith, z, n, p .1) }
+    record {
+      value = c .pack .ensures ∙ sym (ap boot-number (p .0));
+      told-apart = (omega (arith, c .pack .ensures, n, p .2), omega (arith, c .pack .ensures, l, p .2));
+      never-ten = λ z. omega (arith, z, n, p .1);
+    }

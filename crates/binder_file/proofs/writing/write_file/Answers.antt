@@ -35,9 +35,11 @@ returns c =
     let w = c .write-sheets .ensures ∙ ap (λ (ds : List Declaration). over (encode ds) (c .args .buffer .now)) same in
     let low : 1 ≤ length ss = omega (arith, eqb-false (length ss) 0 some) in
     let high : length ss ≤ 8 = omega (arith, few, length-take (c .args .binder .now .len) (c .args .binder .now .sheets)) in
-    record { answer = fits ∙ ap (λ (ds : List Declaration). write-judged ds (length (c .args .buffer .now))) same
-      ; written = λ count e. w
-      ; reads-back = λ count e.
+    record {
+      answer = fits ∙ ap (λ (ds : List Declaration). write-judged ds (length (c .args .buffer .now))) same;
+      written = λ count e. w;
+      reads-back = λ count e.
           let n : c .size-of-file-size .result ≡ count = cc in
-          ap (λ (l : List ℕ). decode (take count l)) (c .write-sheets .ensures) ∙ written-back ss (c .args .buffer .now) count low high (sym n ∙ c .size-of-file-size .ensures) ∙ ap (λ (ds : List Declaration). Ok ds) same
-      ; kept = search needs }
+          ap (λ (l : List ℕ). decode (take count l)) (c .write-sheets .ensures) ∙ written-back ss (c .args .buffer .now) count low high (sym n ∙ c .size-of-file-size .ensures) ∙ ap (λ (ds : List Declaration). Ok ds) same;
+      kept = search needs;
+    }

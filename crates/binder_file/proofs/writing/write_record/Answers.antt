@@ -21,10 +21,12 @@ returns g c =
     let n = c .field-count-count .result in
     let part : take (n - 0) (c .put-fields .last .out) ≡ fields-of d = fields-put (c .put-fields .last .out) _ (fields-of d) n (c .put-fields .ensures) (c .field-count-count .ensures) in
     let size = length-words (record-words d) in
-    record { end = omega (arith, size, c .field-count-count .ensures)
-      ; bytes = λ first old e a m.
+    record {
+      end = omega (arith, size, c .field-count-count .ensures);
+      bytes = λ first old e a m.
           let head = joined word-bytes ((2 + 2 * n) ∷ c .tag .result ∷ []) in
           c .put-words-2 .ensures (first ++ head) old (c .put-words .ensures first old e a (omega (arith, size, m)))
           (omega (arith, length-append first head, a))
           (omega (arith, size, m, length-take (n - 0) (c .put-fields .last .out), c .field-count-count .ensures))
-          ∙ ap (λ (l : List ℕ). over l old) (record-parts first d n (c .tag .result) _ (c .field-count-count .ensures) (g .S·SheetKind·met .named (c .args .sheet .now) ∙ sym (c .tag .ensures)) part) }
+          ∙ ap (λ (l : List ℕ). over l old) (record-parts first d n (c .tag .result) _ (c .field-count-count .ensures) (g .S·SheetKind·met .named (c .args .sheet .now) ∙ sym (c .tag .ensures)) part);
+    }

@@ -12,5 +12,7 @@ pub returns-in-Line : need.returns-in-Line
 returns-in-Line c =
     let w = c .write-record-in-Line .ensures in
     let e = sym (c .in-Line .is) in
-    record { end = w .end ∙ ap (λ (s : Sheet). c .args .at + length (record-bytes (declared s))) e
-      ; bytes = λ first old p n m. w .bytes first old p n m ∙ ap (λ (s : Sheet). over (first ++ record-bytes (declared s)) old) e }
+    record {
+      end = w .end ∙ ap (λ (s : Sheet). c .args .at + length (record-bytes (declared s))) e;
+      bytes = λ first old p n m. w .bytes first old p n m ∙ ap (λ (s : Sheet). over (first ++ record-bytes (declared s)) old) e;
+    }

@@ -28,10 +28,11 @@ loop-sheet-again c =
     let done = encode (map declared (take (c .loop-sheet .sheet-index) ss)) in
     let e = encode-more ss (c .loop-sheet .sheet-index) s (omega arith) (c .sheet-item .is) in
     let m = ap (λ (l : List ℕ). length l) e in
-    let n = length-append done (record-bytes (declared s)) in
-    ( omega (arith, m, n, c .loop-sheet .inv .0, c .write-sheet-at .ensures .end)
-    , c .write-sheet-at .ensures .bytes done (c .args .buffer .now) (c .loop-sheet .inv .1) (c .loop-sheet .inv .0) (omega arith)
-      ∙ ap (λ (l : List ℕ). over l (c .args .buffer .now)) (sym e) )
+    let n = length-append done (record-bytes (declared s)) in (
+      omega (arith, m, n, c .loop-sheet .inv .0, c .write-sheet-at .ensures .end),
+      c .write-sheet-at .ensures .bytes done (c .args .buffer .now) (c .loop-sheet .inv .1) (c .loop-sheet .inv .0) (omega arith)
+          ∙ ap (λ (l : List ℕ). over l (c .args .buffer .now)) (sym e),
+    )
 
 pub returns : need.returns
 returns c = c .loop-sheet .inv .1 ∙ ap (λ (l : List Sheet). over (encode (map declared l)) (c .args .buffer .now)) (take-all (c .loop-sheet .sheet-index) (c .args .sheets .now) (omega arith))

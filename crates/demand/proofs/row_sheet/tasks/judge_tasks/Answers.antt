@@ -15,7 +15,7 @@ pub returns-then-not-is-in-range : need.returns-then-not-is-in-range
 returns-then-not-is-in-range c =
     let ts = c .args .tasks .now in
     sym (tasks-sized ts (sym (c .if-is-empty .ensures tt)) (omega arith)
-      ∙ ap (refused-by TaskOutOfRange) (c .loop-i .inv ∙ first-here (λ i. not (task-sound (getD ts i no-task))) (c .loop-i .i) (length ts) (omega arith) (not-from-false _ (sym (c .if-not-is-in-range .ensures tt)))))
+    ∙ ap (refused-by TaskOutOfRange) (c .loop-i .inv ∙ first-here (λ i. not (task-sound (getD ts i no-task))) (c .loop-i .i) (length ts) (omega arith) (not-from-false _ (sym (c .if-not-is-in-range .ensures tt)))))
 
 pub loop-i-again : need.loop-i-again
 loop-i-again c =
@@ -26,4 +26,4 @@ pub returns : need.returns
 returns c =
     let ts = c .args .tasks .now in
     sym (tasks-sized ts (sym (c .if-is-empty .ensures tt)) (omega arith)
-      ∙ ap (refused-by TaskOutOfRange) (c .loop-i .inv ∙ first-none (λ i. not (task-sound (getD ts i no-task))) (c .loop-i .i) (length ts) (omega arith)))
+    ∙ ap (refused-by TaskOutOfRange) (c .loop-i .inv ∙ first-none (λ i. not (task-sound (getD ts i no-task))) (c .loop-i .i) (length ts) (omega arith)))

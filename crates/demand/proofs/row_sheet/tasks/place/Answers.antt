@@ -31,18 +31,19 @@ returns-then-are-alike c =
 pub loop-i-again : need.loop-i-again
 loop-i-again c =
     let v = c .loop-i .inv in
-    let s = place-step (c .loop-i .rows) (c .loop-i .i) (c .args .len) no-row (omega arith) (omega (arith, v .0)) (c .loop-i .carried) _ _ (c .in-order .ensures .0) (c .in-order .ensures .1) (sym (c .if-are-alike .ensures tt)) in
-    ( length-set (c .loop-i .rows) (c .loop-i .i) _ ∙ v .0
-    , v .1 ∙ s
-    , small-copies (before (c .loop-i .carried) (getD (c .loop-i .rows) (c .loop-i .i) no-row)) _ _ _ (c .in-order .ensures .1) (v .3 (c .loop-i .i) (omega arith)) (v .2)
-    , λ k h. ⊎-elim
-        (λ (e : k ≡ c .loop-i .i).
+    let s = place-step (c .loop-i .rows) (c .loop-i .i) (c .args .len) no-row (omega arith) (omega (arith, v .0)) (c .loop-i .carried) _ _ (c .in-order .ensures .0) (c .in-order .ensures .1) (sym (c .if-are-alike .ensures tt)) in (
+      length-set (c .loop-i .rows) (c .loop-i .i) _ ∙ v .0,
+      v .1 ∙ s,
+      small-copies (before (c .loop-i .carried) (getD (c .loop-i .rows) (c .loop-i .i) no-row)) _ _ _ (c .in-order .ensures .1) (v .3 (c .loop-i .i) (omega arith)) (v .2),
+      λ k h. ⊎-elim
+          (λ (e : k ≡ c .loop-i .i).
           subst (λ (n : ℕ). getD (set (c .loop-i .rows) (c .loop-i .i) (c .in-order .result .0)) n no-row .copies ≤ 16) (sym e)
           (subst (λ (x : Row). x .copies ≤ 16) (sym (getD-set-same (c .loop-i .rows) (c .loop-i .i) (c .in-order .result .0) no-row (omega (arith, v .0))))
-            (small-copies (before (c .loop-i .carried) (getD (c .loop-i .rows) (c .loop-i .i) no-row)) _ _ _ (c .in-order .ensures .0) (v .2) (v .3 (c .loop-i .i) (omega arith)))))
-        (λ (e : k ≡ c .loop-i .i → ⊥).
+          (small-copies (before (c .loop-i .carried) (getD (c .loop-i .rows) (c .loop-i .i) no-row)) _ _ _ (c .in-order .ensures .0) (v .2) (v .3 (c .loop-i .i) (omega arith)))))
+          (λ (e : k ≡ c .loop-i .i → ⊥).
           subst (λ (x : Row). x .copies ≤ 16) (sym (getD-set-other (c .loop-i .rows) (c .loop-i .i) k (c .in-order .result .0) no-row e)) (v .3 k h))
-        (cases-eq k (c .loop-i .i)) )
+          (cases-eq k (c .loop-i .i)),
+    )
 
 pub index-rows-len : need.index-rows-len
 index-rows-len c =

@@ -10,9 +10,11 @@ pub loop-i-again : need.loop-i-again
 loop-i-again c =
     let i = c .loop-i .-i in
     let p = c .loop-i .power in
-    let h = c .loop-i .inv .0 in
-    ( power-more i p h
-    , elim (c .if-power-x .came)
-      [ then-power-x w ↦ w .found-is ∙ below-more i (c .args .x) p h (omega (arith, w .if-power-x .taken))
-      | else-power-x w ↦ w .found-is ∙ c .loop-i .inv .1 ∙ below-same i (c .args .x) p h (omega (arith, w .if-power-x .left)) ]
-    , power-fits i p (omega arith) h )
+    let h = c .loop-i .inv .0 in (
+      power-more i p h,
+      elim (c .if-power-x .came) [
+        | then-power-x w ↦ w .found-is ∙ below-more i (c .args .x) p h (omega (arith, w .if-power-x .taken))
+        | else-power-x w ↦ w .found-is ∙ c .loop-i .inv .1 ∙ below-same i (c .args .x) p h (omega (arith, w .if-power-x .left))
+      ],
+      power-fits i p (omega arith) h,
+    )

@@ -26,8 +26,8 @@ returns-then-is-crowded c =
     let is = getD-map rounded ts i no-task no-row (omega arith) ∙ sym (c .row-of-row .ensures) in
     let z : c .loop-i .len - 0 ≡ c .loop-i .len = omega arith in
     let t : crowded ks i ≡ true =
-      crowded-is ks i (take (c .loop-i .len) (c .loop-i .rows)) (c .row-of-row .result) (v .2) (omega (arith, length-map ts rounded)) is
-      ∙ ap (λ (n : ℕ). no-room (copies-of (c .row-of-row .result) (take n (c .loop-i .rows))) (length (take n (c .loop-i .rows)))) (sym z) ∙ sym (c .if-is-crowded .ensures tt) in
+    crowded-is ks i (take (c .loop-i .len) (c .loop-i .rows)) (c .row-of-row .result) (v .2) (omega (arith, length-map ts rounded)) is
+    ∙ ap (λ (n : ℕ). no-room (copies-of (c .row-of-row .result) (take n (c .loop-i .rows))) (length (take n (c .loop-i .rows)))) (sym z) ∙ sym (c .if-is-crowded .ensures tt) in
     record { answer = sym (ap (refused-by NoRoom) (v .3 ∙ first-here (crowded ks) i (length ts) (omega arith) t)); grouped = tt }
 
 pub place-len-requires : need.place-len-requires
@@ -39,14 +39,17 @@ place-len-requires c κs =
     let is = getD-map rounded ts i no-task no-row (omega arith) ∙ sym (c .row-of-row .ensures) in
     let z : c .loop-i .len - 0 ≡ c .loop-i .len = omega arith in
     let f : no-room (copies-of (c .row-of-row .result) (take (c .loop-i .len) (c .loop-i .rows))) (length (take (c .loop-i .len) (c .loop-i .rows))) ≡ false =
-      ap (λ (n : ℕ). no-room (copies-of (c .row-of-row .result) (take n (c .loop-i .rows))) (length (take n (c .loop-i .rows)))) (sym z) ∙ sym (c .if-is-crowded .ensures tt) in
+    ap (λ (n : ℕ). no-room (copies-of (c .row-of-row .result) (take n (c .loop-i .rows))) (length (take n (c .loop-i .rows)))) (sym z) ∙ sym (c .if-is-crowded .ensures tt) in
     let one : c .row-of-row .result .copies ≡ 1 = ap (λ (r : Row). r .copies) (c .row-of-row .ensures) in
-    let ranged = subst (λ (r : Row). row-ranges r ≡ true) (sym (c .row-of-row .ensures)) (a .ranged i (omega arith)) in
-    ( (placed-few (map rounded ts) i (take (c .loop-i .len) (c .loop-i .rows)) (c .row-of-row .result) (v .2) (omega (arith, length-map ts rounded)) is f one ranged
-      , (omega (arith, v .1, v .2 .few), omega arith))
-    , λ k h.
-        let r = all-getD (λ r. row-ranges r ≡ true) (take (c .loop-i .len) (c .loop-i .rows)) k no-row (omega (arith, v .1)) (v .2 .ranged) in
-        subst (λ (x : Row). x .copies ≤ 16) (getD-take (c .loop-i .len) (c .loop-i .rows) k no-row h) (ranges-from (getD (take (c .loop-i .len) (c .loop-i .rows)) k no-row) r .copies-high) )
+    let ranged = subst (λ (r : Row). row-ranges r ≡ true) (sym (c .row-of-row .ensures)) (a .ranged i (omega arith)) in (
+      (
+        placed-few (map rounded ts) i (take (c .loop-i .len) (c .loop-i .rows)) (c .row-of-row .result) (v .2) (omega (arith, length-map ts rounded)) is f one ranged,
+        (omega (arith, v .1, v .2 .few), omega arith),
+      ),
+      λ k h.
+          let r = all-getD (λ r. row-ranges r ≡ true) (take (c .loop-i .len) (c .loop-i .rows)) k no-row (omega (arith, v .1)) (v .2 .ranged) in
+          subst (λ (x : Row). x .copies ≤ 16) (getD-take (c .loop-i .len) (c .loop-i .rows) k no-row h) (ranges-from (getD (take (c .loop-i .len) (c .loop-i .rows)) k no-row) r .copies-high),
+    )
 
 pub loop-i-again : need.loop-i-again
 loop-i-again c =
@@ -60,15 +63,16 @@ loop-i-again c =
     let here : i < length ks = omega (arith, length-map ts rounded) in
     let z : c .loop-i .len - 0 ≡ c .loop-i .len = omega arith in
     let f : no-room (copies-of (c .row-of-row .result) rs) (length rs) ≡ false =
-      ap (λ (n : ℕ). no-room (copies-of (c .row-of-row .result) (take n (c .loop-i .rows))) (length (take n (c .loop-i .rows)))) (sym z) ∙ sym (c .if-is-crowded .ensures tt) in
+    ap (λ (n : ℕ). no-room (copies-of (c .row-of-row .result) (take n (c .loop-i .rows))) (length (take n (c .loop-i .rows)))) (sym z) ∙ sym (c .if-is-crowded .ensures tt) in
     let one : c .row-of-row .result .copies ≡ 1 = ap (λ (r : Row). r .copies) (c .row-of-row .ensures) in
     let ranged = subst (λ (r : Row). row-ranges r ≡ true) (sym (c .row-of-row .ensures)) (a .ranged i (omega arith)) in
     let n : length (c .place-len .last .rows) ≡ 8 = search needs in
-    let e = c .place-len .ensures .0 in
-    ( n
-    , ap (λ (l : List Row). length l) e ∙ sym (c .place-len .ensures .1)
-    , subst (λ (l : List Row). Filled ks (i + 1) l) (sym e) (filled-more ks i rs (c .row-of-row .result) (v .2) here is f one ranged)
-    , v .3 ∙ first-later (crowded ks) i (length ts) (omega arith) (crowded-is ks i rs (c .row-of-row .result) (v .2) here is ∙ f) )
+    let e = c .place-len .ensures .0 in (
+      n,
+      ap (λ (l : List Row). length l) e ∙ sym (c .place-len .ensures .1),
+      subst (λ (l : List Row). Filled ks (i + 1) l) (sym e) (filled-more ks i rs (c .row-of-row .result) (v .2) here is f one ranged),
+      v .3 ∙ first-later (crowded ks) i (length ts) (omega arith) (crowded-is ks i rs (c .row-of-row .result) (v .2) here is ∙ f),
+    )
 
 pub ghost-result : need.ghost-result
 ghost-result c =
