@@ -13,5 +13,5 @@ pub fn reference_values() -> u32
     ensures agree { λ _. ⌜ All Agrees reference-values ⌝ }
     ensures count { λ r. ⌜ r ≡ length reference-values ⌝ }
 {
-    16
+    17
 }

@@ -18,7 +18,7 @@ use Rattle.demand.proofs.Records.{same-four}
 use Rattle.demand.specs.Tasks.{alike, how-many, copies-of, Ascending, Grouped}
 
 -- rows that are alike
-alike-parts : (r s : Row) → alike r s ≡ true → (r .period ≡ s .period) × (r .deadline ≡ s .deadline) × (r .budget ≡ s .budget)
+pub alike-parts : (r s : Row) → alike r s ≡ true → (r .period ≡ s .period) × (r .deadline ≡ s .deadline) × (r .budget ≡ s .budget)
 alike-parts r s h =
     let a = and-parts (eqb (r .period) (s .period)) (eqb (r .deadline) (s .deadline) && eqb (r .budget) (s .budget)) h in
     let b = and-parts (eqb (r .deadline) (s .deadline)) (eqb (r .budget) (s .budget)) (a .1) in
@@ -185,7 +185,7 @@ own-copies : (r : Row) (rs : List Row) → All (λ s. before r s ≡ true) rs �
 own-copies r rs a =
     omega (arith, copies-cons r r rs, none-alike r rs a, cond-true {A = ℕ} (alike r r) (r .copies) 0 (and-from _ _ (eq-eqb (r .period) (r .period) refl) (and-from _ _ (eq-eqb (r .deadline) (r .deadline) refl) (eq-eqb (r .budget) (r .budget) refl))))
 
-same-row : (r s : Row) → r .period ≡ s .period → r .deadline ≡ s .deadline → r .budget ≡ s .budget → r .copies ≡ s .copies → r ≡ s
+pub same-row : (r s : Row) → r .period ≡ s .period → r .deadline ≡ s .deadline → r .budget ≡ s .budget → r .copies ≡ s .copies → r ≡ s
 same-row r s p q u v = same-four (r .period) (s .period) (r .deadline) (s .deadline) (r .budget) (s .budget) (r .copies) (s .copies) p q u v
 
 before-like : (s r : Row) (ss : List Row) → alike s r ≡ true → All (λ x. before s x ≡ true) ss → All (λ x. before r x ≡ true) ss
