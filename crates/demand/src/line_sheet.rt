@@ -17,7 +17,7 @@ pub struct LineSheet {
 }
 
 impl LineSheet {
-    // The built-in sheet: one unit every 4,096 ticks, none before they have passed.
+    // The built-in sheet; `built_in` says what it declares.
     pub const BUILT_IN: LineSheet = LineSheet {
         line: Line {
             deadline: 4096,

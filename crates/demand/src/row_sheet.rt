@@ -22,7 +22,7 @@ pub struct RowSheet {
 }
 
 impl RowSheet {
-    // The built-in sheet: one unit every 4,096 ticks, due at the end of them.
+    // The built-in sheet; `built_in` says what it declares.
     pub const BUILT_IN: RowSheet = RowSheet {
         rows: [Row {
             period: 4096,

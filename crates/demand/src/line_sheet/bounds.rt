@@ -4,6 +4,13 @@ use crate::line::Line;
 use crate::line_sheet::LineSheet;
 
 impl LineSheet {
+    // The built-in sheet: one unit every 4,096 ticks, none before they have passed.
+    pub fn built_in() -> LineSheet
+        ensures { λ r. ⌜ r .line ≡ record { deadline = 4096; burst = 0; per = 4096; rate = 1 } ⌝ }
+    {
+        LineSheet::BUILT_IN
+    }
+
     // The line that this sheet declares.
     pub fn line(&self) -> Line
         ensures { λ r. ⌜ r ≡ now (self .entry) .line ⌝ }

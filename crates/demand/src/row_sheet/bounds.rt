@@ -1,3 +1,4 @@
+ghost use mathlib.Core.List.{[], _∷_};
 ghost use mathlib.Core.Path.{_≡_};
 ghost use Prim.Native.Nat.{_≤_};
 ghost use lib.ListN.{length};
@@ -27,6 +28,13 @@ fn row_gain(row: &Row) -> u64
 }
 
 impl RowSheet {
+    // The built-in sheet: one row with a unit every 4,096 ticks, due at the end of them.
+    pub fn built_in() -> RowSheet
+        ensures { λ r. ⌜ sheet-rows r ≡ record { period = 4096; deadline = 4096; budget = 1; copies = 1 } ∷ [] ⌝ }
+    {
+        RowSheet::BUILT_IN
+    }
+
     // The rows, in sheet order.
     pub fn rows(&self) -> &[Row]
         ensures value { λ r. ⌜ now r ≡ sheet-rows (now (self .entry)) ⌝ }

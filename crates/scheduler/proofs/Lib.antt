@@ -1,0 +1,7 @@
+pub mod Certificate
+pub mod Jobwise
+pub mod Loads
+pub mod Soundness
+pub mod Sums
+pub mod Weak
+pub mod Windows
