@@ -18,20 +18,20 @@ least test f zero m l t = absurd (omega arith)
 least test f (suc n) m l t =
     ⊎-elim
     (λ (here : test n ≡ true).
-      ⊎-elim
-      (λ (w : (i : ℕ) × (i < n) × (test i ≡ true)).
-        let r = least test f n (w .0) (w .1) (w .2) in
-        ⊎-elim
-        (λ (less : f n < f (r .0)). (n, omega arith, here, λ b k s. ⊎-elim (λ (q : b < n). omega (arith, r .3 b q s)) (λ (q : n ≤ b). let e : b ≡ n = omega arith in omega (arith, ap f e)) (cases-lt b n)))
-        (λ (more : f (r .0) ≤ f n). (r .0, omega (arith, r .1), r .2, λ b k s. ⊎-elim (λ (q : b < n). r .3 b q s) (λ (q : n ≤ b). let e : b ≡ n = omega arith in omega (arith, ap f e)) (cases-lt b n)))
-        (cases-lt (f n) (f (r .0))))
-      (λ (none : (i : ℕ) → i < n → test i ≡ false).
-        (n, omega arith, here, λ b k s. ⊎-elim (λ (q : b < n). absurd (both-ways (test b) (none b q) s)) (λ (q : n ≤ b). let e : b ≡ n = omega arith in omega (arith, ap f e)) (cases-lt b n)))
-      (some-or-none test n))
+    ⊎-elim
+    (λ (w : (i : ℕ) × (i < n) × (test i ≡ true)).
+    let r = least test f n (w .0) (w .1) (w .2) in
+    ⊎-elim
+    (λ (less : f n < f (r .0)). (n, omega arith, here, λ b k s. ⊎-elim (λ (q : b < n). omega (arith, r .3 b q s)) (λ (q : n ≤ b). let e : b ≡ n = omega arith in omega (arith, ap f e)) (cases-lt b n)))
+    (λ (more : f (r .0) ≤ f n). (r .0, omega (arith, r .1), r .2, λ b k s. ⊎-elim (λ (q : b < n). r .3 b q s) (λ (q : n ≤ b). let e : b ≡ n = omega arith in omega (arith, ap f e)) (cases-lt b n)))
+    (cases-lt (f n) (f (r .0))))
+    (λ (none : (i : ℕ) → i < n → test i ≡ false).
+    (n, omega arith, here, λ b k s. ⊎-elim (λ (q : b < n). absurd (both-ways (test b) (none b q) s)) (λ (q : n ≤ b). let e : b ≡ n = omega arith in omega (arith, ap f e)) (cases-lt b n)))
+    (some-or-none test n))
     (λ (not-here : test n ≡ false).
-      let below : m < n = ⊎-elim (λ (q : m < n). q) (λ (q : n ≤ m). let e : m ≡ n = omega arith in absurd (both-ways (test n) not-here (ap test (sym e) ∙ t))) (cases-lt m n) in
-      let r = least test f n m below t in
-      (r .0, omega (arith, r .1), r .2, λ b k s. ⊎-elim (λ (q : b < n). r .3 b q s) (λ (q : n ≤ b). let e : b ≡ n = omega arith in absurd (both-ways (test n) not-here (ap test (sym e) ∙ s))) (cases-lt b n)))
+    let below : m < n = ⊎-elim (λ (q : m < n). q) (λ (q : n ≤ m). let e : m ≡ n = omega arith in absurd (both-ways (test n) not-here (ap test (sym e) ∙ t))) (cases-lt m n) in
+    let r = least test f n m below t in
+    (r .0, omega (arith, r .1), r .2, λ b k s. ⊎-elim (λ (q : b < n). r .3 b q s) (λ (q : n ≤ b). let e : b ≡ n = omega arith in absurd (both-ways (test n) not-here (ap test (sym e) ∙ s))) (cases-lt b n)))
     (cases-bool (test n))
   where
     some-or-none : (test : ℕ → Bool) (n : ℕ) → ((i : ℕ) × (i < n) × (test i ≡ true)) ⊎ ((i : ℕ) → i < n → test i ≡ false)
@@ -39,9 +39,9 @@ least test f (suc n) m l t =
     some-or-none test (suc n) =
         ⊎-elim (λ (y : test n ≡ true). inl (n, omega arith, y))
         (λ (o : test n ≡ false).
-          ⊎-elim (λ (w : (i : ℕ) × (i < n) × (test i ≡ true)). inl (w .0, omega (arith, w .1), w .2))
-          (λ (none : (i : ℕ) → i < n → test i ≡ false). inr (λ i l. ⊎-elim (λ (q : i < n). none i q) (λ (q : n ≤ i). let e : i ≡ n = omega arith in ap test e ∙ o) (cases-lt i n)))
-          (some-or-none test n))
+        ⊎-elim (λ (w : (i : ℕ) × (i < n) × (test i ≡ true)). inl (w .0, omega (arith, w .1), w .2))
+        (λ (none : (i : ℕ) → i < n → test i ≡ false). inr (λ i l. ⊎-elim (λ (q : i < n). none i q) (λ (q : n ≤ i). let e : i ≡ n = omega arith in ap test e ∙ o) (cases-lt i n)))
+        (some-or-none test n))
         (cases-bool (test n))
 
 -- the greatest value, by the least distance from one that none exceeds
@@ -70,7 +70,7 @@ free-at-jobs bound h n climbs known free s e lies =
     let e′ = job h (b .0) .due in
     let room = free (a .0) (b .0) (a .1) (b .1) (first .0) (last .0) (a .3 n known own, b .3 n known own) in
     let more = sum-le (count h) (λ i. cond (inside k s e (job h i)) (units h i) 0) (λ i. cond (inside k s′ e′ (job h i)) (units h i) 0)
-      (λ i l. share-more (inside k s e (job h i)) (inside k s′ e′ (job h i)) (units h i) (λ t. inside-from k s′ e′ (job h i) (inside-true k s e (job h i) t .0) (a .3 i l t) (b .3 i l t))) in
+    (λ i l. share-more (inside k s e (job h i)) (inside k s′ e′ (job h i)) (units h i) (λ t. inside-from k s′ e′ (job h i) (inside-true k s e (job h i) t .0) (a .3 i l t) (b .3 i l t))) in
     omega (arith, room, more, climbs k (e′ - s′) (e - s) (omega (arith, first .1, last .2)))
 
 pub at-jobs-free : (bound : ℕ → ℕ → ℕ) (h : History) (n : ℕ) → Free bound (load h) (job h n) → FreeAtJobs bound h n

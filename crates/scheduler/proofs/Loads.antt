@@ -1,4 +1,4 @@
--- What an event makes of the jobs, the loads and the fates. Assumes nothing.
+-- What an event makes of the jobs, the loads and the fates.
 use mathlib.Core.Path.{_≡_, refl, sym, ap, subst, _∙_}
 use mathlib.Core.Logic.{_⊎_, inl, inr, ⊎-elim}
 use mathlib.Core.Bool.{Bool, true, false, cond, _&&_}
@@ -62,8 +62,8 @@ module _ (h : History) (k d m : ℕ) where
       ⊎-elim
       (λ (lt : n < count h). subst (P n) (sym (getD-append-left (jobs h) (born h k d ∷ []) no-job n lt)) (old n lt))
       (λ (ge : count h ≤ n).
-          let e : count h ≡ n = omega (arith, length-push (jobs h) (born h k d)) in
-          subst (P n) (sym (getD-push (jobs h) (born h k d) no-job n e)) (subst (λ x. P x (born h k d)) e new))
+      let e : count h ≡ n = omega (arith, length-push (jobs h) (born h k d)) in
+      subst (P n) (sym (getD-push (jobs h) (born h k d) no-job n e)) (subst (λ x. P x (born h k d)) e new))
       (cases-lt n (count h))
 
   zero-cond : (b : Bool) (x : ℕ) → x ≡ 0 → cond b x 0 ≡ 0

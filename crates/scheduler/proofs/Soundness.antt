@@ -1,4 +1,4 @@
--- What every history that follows the rules keeps. Assumes nothing.
+-- What every history that follows the rules keeps.
 use mathlib.Core.Path.{_≡_, refl, sym, ap, subst, _∙_}
 use mathlib.Core.Logic.{_⊎_, inl, inr, ⊎-elim}
 use mathlib.Core.Bool.{Bool, true, false, cond, _&&_}
@@ -82,8 +82,8 @@ module _ (parts : ℕ) (bound : ℕ → ℕ → ℕ) where
       within = within;
       busy = λ e l. busy e (s .busy e l);
       earned = each-arrived h k d m (λ n j. fate h n ≡ cut → Spent bound (load next) j)
-        (λ n l e. spent-after bound h next more within (job h n) (s .earned n l e))
-        (λ e. absurd (pending-cut (fate h (count h)) (s .unborn (count h) (omega arith)) e));
+          (λ n l e. spent-after bound h next more within (job h n) (s .earned n l e))
+          (λ e. absurd (pending-cut (fate h (count h)) (s .unborn (count h) (omega arith)) e));
     }
       where
         next : History
@@ -104,8 +104,8 @@ module _ (parts : ℕ) (bound : ℕ → ℕ → ℕ) where
           early = b .early;
           full = omega (arith, b .full, sum-same parts (λ c. load next c (b .since) e) (λ c. load h c (b .since) e) (λ c _. same c (b .since) e));
           later = λ n o free due.
-            each-arrived h k d m (λ n j. fate h n ≡ pending → Free bound (load next) j → j .due ≤ e → b .since ≤ j .arrival)
-            (λ n l p f. b .later n (l, p) (free-before bound h next more (job h n) f)) (λ _ _ _. b .early) n (o .0) (o .1) free due;
+              each-arrived h k d m (λ n j. fate h n ≡ pending → Free bound (load next) j → j .due ≤ e → b .since ≤ j .arrival)
+              (λ n l p f. b .later n (l, p) (free-before bound h next more (job h n) f)) (λ _ _ _. b .early) n (o .0) (o .1) free due;
         }
 
     after-refused : (c : Call) (why : ℕ) → Sound parts bound (refused c why ∷ h)
@@ -164,17 +164,18 @@ module _ (parts : ℕ) (bound : ℕ → ℕ → ℕ) where
         ⊎-elim (λ free. inl free)
         (λ w. inr (w .0, w .1, w .2, omega (arith, w .3, s .within (job h n .component) (w .0) (w .1))))
         (free-or-full bound (load h) (job h n) (horizon h) (λ a b le. fair .grows (job h n .component) a b le)
-          (λ t e. load-past h (job h n .component) t e) (due-before h n l))
+        (λ t e. load-past h (job h n .component) t e) (due-before h n l))
 
     -- what a tick is, whatever it ran
     module _ (ran : Option ℕ) (held cuts : ℕ) (more : (k t e : ℕ) → load h k t e ≤ load (ticked ran held cuts ∷ h) k t e) (by-one : (k t e : ℕ) → load (ticked ran held cuts ∷ h) k t e ≤ load h k t e + 1) where
       live-before : (n : ℕ) → Open (ticked ran held cuts ∷ h) n → Live h n
       live-before n w =
-          let p = still-pending (late h n) (fate h n) cut cut-pending (w .1) in
-          ((w .0, p .1),
-           ⊎-elim (λ (lt : clock h < job h n .due). lt)
-           (λ (ge : job h n .due ≤ clock h). absurd (both-ways (late h n) (p .0) (and-from _ _ (lt-ltb n (count h) (w .0)) (le-leb (job h n .due) (clock h) ge))))
-           (cases-lt (clock h) (job h n .due)))
+          let p = still-pending (late h n) (fate h n) cut cut-pending (w .1) in (
+            (w .0, p .1),
+            ⊎-elim (λ (lt : clock h < job h n .due). lt)
+                (λ (ge : job h n .due ≤ clock h). absurd (both-ways (late h n) (p .0) (and-from _ _ (lt-ltb n (count h) (w .0)) (le-leb (job h n .due) (clock h) ge))))
+                (cases-lt (clock h) (job h n .due)),
+          )
 
       rested : (d : ℕ) → ((m : ℕ) → Ready bound h m → job h m .due ≤ d → ⊥) → Busy parts bound (ticked ran held cuts ∷ h) d
       rested d none = record {
@@ -194,12 +195,12 @@ module _ (parts : ℕ) (bound : ℕ → ℕ → ℕ) where
         within = within;
         busy = busy;
         earned = λ n l e.
-          spent-after bound h (ticked ran held cuts ∷ h) more within (job h n)
-          (⊎-elim (λ (before : fate h n ≡ cut). s .earned n l before)
-           (λ (now : (late h n ≡ true) × (fate h n ≡ pending)).
-               let due : job h n .due ≤ clock h = leb-true _ _ (and-parts (ltb n (count h)) (leb (job h n .due) (clock h)) (now .0) .1) in
-               ⊎-elim (λ free. absurd (not-free fair n (l, now .1) due free)) (λ spent. spent) (free-or-spent fair n l))
-           (cut-now (late h n) (fate h n) e));
+            spent-after bound h (ticked ran held cuts ∷ h) more within (job h n)
+            (⊎-elim (λ (before : fate h n ≡ cut). s .earned n l before)
+            (λ (now : (late h n ≡ true) × (fate h n ≡ pending)).
+            let due : job h n .due ≤ clock h = leb-true _ _ (and-parts (ltb n (count h)) (leb (job h n .due) (clock h)) (now .0) .1) in
+            ⊎-elim (λ free. absurd (not-free fair n (l, now .1) due free)) (λ spent. spent) (free-or-spent fair n l))
+            (cut-now (late h n) (fate h n) e));
       }
 
     after-idle : Fair parts bound → (held cuts : ℕ) → Picks bound h None → Sound parts bound (ticked None held cuts ∷ h)
@@ -217,7 +218,7 @@ module _ (parts : ℕ) (bound : ℕ → ℕ → ℕ) where
     after-run fair n held cuts picks =
         ticked-so (Some n) held cuts more by-one fair within (λ i l. gives-other h held cuts n i (omega (arith, known)))
         (λ d l. ⊎-elim (λ (by : d < job h n .due). rested (Some n) held cuts more by-one d (λ m ready due. absurd (omega (arith, picks .1 m ready))))
-          (λ (by : job h n .due ≤ d). busier d by (s .busy d (omega arith))) (cases-lt d (job h n .due)))
+        (λ (by : job h n .due ≤ d). busier d by (s .busy d (omega arith))) (cases-lt d (job h n .due)))
       where
         next : History
         next = ticked (Some n) held cuts ∷ h
@@ -239,9 +240,9 @@ module _ (parts : ℕ) (bound : ℕ → ℕ → ℕ) where
         within k t e =
             ⊎-elim
             (λ i.
-                let lies = inside-true k t e (job h n) i in
-                let room : load h k t e + 1 ≤ bound k (e - t) = subst (λ c. load h c t e + 1 ≤ bound c (e - t)) (lies .0) (picks .0 .1 t e (lies .1, lies .2)) in
-                omega (arith, load-in h held cuts n known k t e i, room))
+            let lies = inside-true k t e (job h n) i in
+            let room : load h k t e + 1 ≤ bound k (e - t) = subst (λ c. load h c t e + 1 ≤ bound c (e - t)) (lies .0) (picks .0 .1 t e (lies .1, lies .2)) in
+            omega (arith, load-in h held cuts n known k t e i, room))
             (λ i. omega (arith, load-out h held cuts n k t e i, s .within k t e)) (cases-bool (inside k t e (job h n)))
 
         busier : (d : ℕ) → job h n .due ≤ d → Busy parts bound h d → Busy parts bound next d
@@ -249,7 +250,7 @@ module _ (parts : ℕ) (bound : ℕ → ℕ → ℕ) where
             let began = b .later n (picks .0 .0 .0) (picks .0 .1) by in
             let here = load-in h held cuts n known (job h n .component) (b .since) d (inside-from (job h n .component) (b .since) d (job h n) refl began by) in
             let one = sum-more parts (λ k. load h k (b .since) d) (λ k. load next k (b .since) d) (job h n .component) (s .timely n known .known) here
-                (λ k _ ne. load-out h held cuts n k (b .since) d (inside-other k (b .since) d (job h n) (λ e. ne (sym e)))) in
+            (λ k _ ne. load-out h held cuts n k (b .since) d (inside-other k (b .since) d (job h n) (λ e. ne (sym e)))) in
             record {
               since = b .since;
               early = omega (arith, b .early);

@@ -1,4 +1,4 @@
--- Laws of sums over the numbers below n, and a search among them. Assumes nothing.
+-- Laws of sums over the numbers below n, and a search among them.
 use mathlib.Core.Path.{_≡_, refl, sym, subst}
 use mathlib.Core.Logic.{_⊎_, inl, inr, ⊎-elim}
 use Prim.Native.Nat.{ℕ, zero, suc, _+_, _≤_, _<_}
@@ -27,9 +27,9 @@ sum-more (suc n) f g m l more same =
     ⊎-elim
     (λ (lt : m < n). omega (arith, sum-more n f g m lt more (λ i k. same i (omega arith)), same n (omega arith) (omega arith)))
     (λ (ge : n ≤ m).
-        let here : m ≡ n = omega arith in
-        let at : g n ≡ f n + 1 = subst (λ x. g x ≡ f x + 1) here more in
-        omega (arith, sum-same n g f (λ i k. same i (omega arith) (omega arith)), at))
+    let here : m ≡ n = omega arith in
+    let at : g n ≡ f n + 1 = subst (λ x. g x ≡ f x + 1) here more in
+    omega (arith, sum-same n g f (λ i k. same i (omega arith) (omega arith)), at))
     (cases-lt m n)
 
 -- one of them is more, and the others are no less
@@ -39,9 +39,9 @@ sum-less (suc n) f g m l more le =
     ⊎-elim
     (λ (lt : m < n). omega (arith, sum-less n f g m lt more (λ i k. le i (omega arith)), le n (omega arith)))
     (λ (ge : n ≤ m).
-        let here : m ≡ n = omega arith in
-        let at : f n + 1 ≤ g n = subst (λ x. f x + 1 ≤ g x) here more in
-        omega (arith, sum-le n f g (λ i k. le i (omega arith)), at))
+    let here : m ≡ n = omega arith in
+    let at : f n + 1 ≤ g n = subst (λ x. f x + 1 ≤ g x) here more in
+    omega (arith, sum-le n f g (λ i k. le i (omega arith)), at))
     (cases-lt m n)
 
 pub sum-has : (n : ℕ) (f : ℕ → ℕ) (m : ℕ) → m < n → f m ≤ total n f
@@ -50,9 +50,9 @@ sum-has (suc n) f m l =
     ⊎-elim
     (λ (lt : m < n). omega (arith, sum-has n f m lt))
     (λ (ge : n ≤ m).
-        let here : m ≡ n = omega arith in
-        let at : f m ≤ f n = subst (λ x. f m ≤ f x) here (omega arith) in
-        omega (arith, at))
+    let here : m ≡ n = omega arith in
+    let at : f m ≤ f n = subst (λ x. f m ≤ f x) here (omega arith) in
+    omega (arith, at))
     (cases-lt m n)
 
 -- a search among the numbers below n

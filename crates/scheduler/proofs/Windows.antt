@@ -1,4 +1,4 @@
--- Whether a job has a free unit is decided by finitely many windows. Assumes nothing.
+-- Whether a job has a free unit is decided by finitely many windows.
 use mathlib.Core.Logic.{_⊎_, inl, inr, ⊎-elim}
 use Prim.Native.Nat.{ℕ, suc, _+_, _-_, _≤_, _<_}
 use native.Mathlib.Omega.{arith}
@@ -31,9 +31,9 @@ module _ (bound : ℕ → ℕ → ℕ) (load-of : ℕ → ℕ → ℕ → ℕ) (
   test t e =
       ⊎-elim (λ (lt : e < j .due). inl (λ d. absurd (omega arith)))
       (λ (ge : j .due ≤ e).
-          ⊎-elim (λ (less : load-of (j .component) t e < bound (j .component) (e - t)). inl (λ d. omega arith))
-          (λ (full : bound (j .component) (e - t) ≤ load-of (j .component) t e). inr (ge, full))
-          (cases-lt (load-of (j .component) t e) (bound (j .component) (e - t))))
+      ⊎-elim (λ (less : load-of (j .component) t e < bound (j .component) (e - t)). inl (λ d. omega arith))
+      (λ (full : bound (j .component) (e - t) ≤ load-of (j .component) t e). inr (ge, full))
+      (cases-lt (load-of (j .component) t e) (bound (j .component) (e - t))))
       (cases-lt e (j .due))
 
   ends-of : (t : ℕ) → ((e : ℕ) → Roomy t e) ⊎ ((e : ℕ) × Fills t e)

@@ -31,12 +31,12 @@ plan-of g b = record { parts = g .count b; bound = g .bound b; gain = g .gain b 
 abbrev pub admitted : Plan → Bool
 admitted p = isOk (admission (p .parts) (p .bound) (p .gain))
 
--- the refusal of an arrive, a finish and a tick, or none; the first that applies
 abbrev pub is-pending : Fate → Bool
 is-pending pending = true
 is-pending done = false
 is-pending cut = false
 
+-- the refusal of an arrive, a finish and a tick: the first that applies, or none
 abbrev pub arrive-refusal : Plan → History → ℕ → ℕ → Option ℕ
 arrive-refusal p h k d =
     cond (not (admitted p)) (Some 11)
@@ -65,7 +65,7 @@ abbrev pub RunsFirst : Plan → History → Option ℕ → Type 0
 RunsFirst p h (Some n) = Ready (p .bound) h n × ((m : ℕ) → Ready (p .bound) h m → (n ≡ m) ⊎ GoesBefore h n m)
 RunsFirst p h None = (m : ℕ) → Ready (p .bound) h m → ⊥
 
--- the call that an event answers, and the refusal of a call
+-- the refusal of any call, and the call that an event answers
 abbrev pub refusal-of : Plan → History → Call → Option ℕ
 refusal-of p h (arrive k d) = arrive-refusal p h k d
 refusal-of p h (finish n) = finish-refusal p h n

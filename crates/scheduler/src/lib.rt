@@ -4,7 +4,6 @@
 ghost use mathlib.Core.Bool.{true};
 ghost use mathlib.Core.Path.{_≡_};
 ghost use Rattle.scheduler.specs.Rules.{plan-of, admitted, AlwaysCertified, OneAnswer, DecidedAtJobs};
-
 use demand::Binder;
 use demand::admit;
 

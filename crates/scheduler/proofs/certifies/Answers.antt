@@ -12,7 +12,9 @@ returns g c =
     let b = c .args .binder .now in
     let p = plan-of (g .B·Binder) b in
     let v = c .is-ok .ensures .value ∙ ap (λ (r : Result (Unit {0}) TestRefusal). isOk r) (c .admit .ensures) in
-    record { verdict = v
-      ; certified = λ e. certified p (g .B·Binder·met .climbs b) (g .B·Binder·met .repeats b) (sym v ∙ e)
-      ; one-answer = answers-once p
-      ; decided-at-jobs = λ h n l. (free-at-jobs (p .bound) h n (g .B·Binder·met .climbs b) l, at-jobs-free (p .bound) h n) }
+    record {
+      verdict = v;
+      certified = λ e. certified p (g .B·Binder·met .climbs b) (g .B·Binder·met .repeats b) (sym v ∙ e);
+      one-answer = answers-once p;
+      decided-at-jobs = λ h n l. (free-at-jobs (p .bound) h n (g .B·Binder·met .climbs b) l, at-jobs-free (p .bound) h n);
+    }
