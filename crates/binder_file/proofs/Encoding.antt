@@ -1,7 +1,7 @@
 use mathlib.Core.Path.{_≡_, refl, sym, ap, _∙_}
-use mathlib.Core.Bool.{Bool, true, false, cond}
+use mathlib.Core.Bool.{false}
 use mathlib.Core.List.{List, [], _∷_, _++_, map}
-use Prim.Native.Nat.{ℕ, zero, suc, _+_, _-_, _*_, _<_, _≤_}
+use Prim.Native.Nat.{ℕ, zero, suc, _+_, _-_, _<_, _≤_}
 use native.Mathlib.Omega.{arith}
 use lib.Dec.{eqb, ltb}
 use lib.ListN.{length, getD, take, drop}
@@ -20,7 +20,7 @@ use Rattle.demand.specs.Sheets.{Declaration, declared}
 use Rattle.demand.proofs.Faults.{then-ok}
 use Rattle.demand.proofs.Filling.{joined-take-more, joined-take-le, joined-map}
 use Rattle.demand.proofs.Records.{sheet-accepted}
-use Rattle.binder_file.specs.Format.{next-start, records-from, record-judged, decode, word-bytes, record-words, record-bytes}
+use Rattle.binder_file.specs.Format.{next-start, records-from, record-judged, decode, record-words, record-bytes}
 use Rattle.binder_file.specs.Writing.{encode, write-judged}
 use Rattle.binder_file.specs.declared.refusal.WriteRefusal.the-variants.{ShortBuffer}
 use Rattle.binder_file.proofs.Format.{records-ended, record-first, decode-some}

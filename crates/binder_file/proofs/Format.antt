@@ -1,12 +1,11 @@
 use mathlib.Core.Path.{_≡_, refl, sym, ap, _∙_}
-use mathlib.Core.Bool.{Bool, true, false, cond, _&&_, _||_}
-use mathlib.Core.List.{List, [], _∷_, _++_, map}
-use Prim.Native.Nat.{ℕ, zero, suc, _+_, _-_, _*_, _/_, _%_, _<_, _≤_}
+use mathlib.Core.Bool.{true, false}
+use mathlib.Core.List.{List, [], _∷_, _++_}
+use Prim.Native.Nat.{ℕ, zero, suc, _+_, _-_, _*_, _/_, _<_, _≤_}
 use native.Mathlib.Numerals.{add-one}
 use native.Mathlib.Omega.{arith}
-use lib.Dec.{ltb, leb, eqb}
-use lib.ListN.{length, getD}
-use Rattle.std.specs.Iters.{counting}
+use lib.Dec.{ltb, eqb}
+use lib.ListN.{length}
 use Rattle.std.specs.declared.result.Result.{Result}
 use Rattle.std.specs.declared.result.Result.the-variants.{Ok, Err}
 use Rattle.std.proofs.shelf.Counted.{length-map-counting}
@@ -18,7 +17,7 @@ use Rattle.demand.specs.declared.fault.FileFault.the-variants.{WrongLength, Rec
 use Rattle.demand.specs.Faults.{spot, then, meaning}
 use Rattle.demand.specs.Sheets.{Declaration}
 use Rattle.demand.proofs.Faults.{then-ok, then-err}
-use Rattle.binder_file.specs.Format.{word-at, fields-at, length-at, kind-at, ends-inside, whole-fields, body-judged, kind-judged, record-judged, next-start, records-from, decode}
+use Rattle.binder_file.specs.Format.{word-at, fields-at, length-at, whole-fields, body-judged, record-judged, next-start, records-from, decode}
 
 pub length-fields : (bs : List ℕ) (place n : ℕ) → length (fields-at bs place n) ≡ n
 length-fields bs place n = length-map-counting (λ i. word-at bs (place + 2 * i)) 0 n

@@ -1,5 +1,5 @@
-use mathlib.Core.Path.{_≡_, refl, sym, ap, subst, _∙_}
-use mathlib.Core.Bool.{Bool, true, false, cond}
+use mathlib.Core.Path.{_≡_, sym, ap, subst, _∙_}
+use mathlib.Core.Bool.{true, false}
 use mathlib.Core.List.{List, [], _∷_}
 use mathlib.Core.Logic.{⊎-elim}
 use Prim.Native.Nat.{ℕ, zero, suc, _+_, _-_, _*_, _/_, _<_, _≤_}
@@ -8,18 +8,17 @@ use lib.Dec.{ltb, eqb}
 use lib.ListN.{length}
 use Rattle.std.specs.declared.result.Result.{Result}
 use Rattle.std.specs.declared.result.Result.the-variants.{Ok, Err}
-use Rattle.std.proofs.shelf.Tests.{cond-true, cond-false, cases-bool, eqb-false, ltb-true, ltb-false}
+use Rattle.std.proofs.shelf.Tests.{cond-true, cond-false, cases-bool, eqb-false, ltb-false}
 use Rattle.demand.specs.declared.fault.RecordStart.{RecordStart}
 use Rattle.demand.specs.declared.fault.FileFault.{FileFault}
-use Rattle.demand.specs.declared.fault.FileFault.the-variants.{CutShort, UnknownKind, WrongLength, RecordCount}
+use Rattle.demand.specs.declared.fault.FileFault.the-variants.{RecordCount}
 use Rattle.demand.specs.Faults.{spot, then, meaning, value-or, fault-numbers}
 use Rattle.demand.specs.Sheets.{Declaration, component-bound, component-gain}
 use Rattle.demand.proofs.Admitted.{numbers-fit}
-use Rattle.demand.specs.Kinds.{rows-record, line-record, fields-of}
 use Rattle.demand.proofs.Inverting.{then-went, not-caught, same-ok}
 use Rattle.demand.proofs.Places.{Near, near-then, near-then-so, near-cond, rows-near, line-near}
 use Rattle.binder_file.specs.Boot.{verdict-on, boot-parts}
-use Rattle.binder_file.specs.Format.{fields-at, length-at, kind-at, ends-inside, whole-fields, body-judged, kind-judged, record-judged, next-start, records-from, decode}
+use Rattle.binder_file.specs.Format.{fields-at, length-at, kind-at, ends-inside, whole-fields, record-judged, next-start, records-from, decode}
 use Rattle.binder_file.proofs.Rewriting.{record-accepted}
 
 near-record : (m : ℕ) (bs : List ℕ) (start : RecordStart) → start .place + 68 ≤ m → Near m (record-judged bs start)

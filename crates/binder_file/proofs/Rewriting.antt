@@ -1,19 +1,18 @@
 use mathlib.Core.Path.{_≡_, refl, sym, ap, _∙_}
-use mathlib.Core.Bool.{Bool, true, false, cond, _&&_, _||_}
-use mathlib.Core.List.{List, [], _∷_, _++_, map}
+use mathlib.Core.Bool.{Bool, true, false, cond}
+use mathlib.Core.List.{List, [], _∷_, _++_}
 use mathlib.Core.Logic.{⊎-elim}
 use Prim.Native.Nat.{ℕ, zero, suc, _+_, _-_, _*_, _/_, _%_, _<_, _≤_}
 use native.Mathlib.Numerals.{add-one}
 use native.Mathlib.Omega.{arith}
 use lib.Dec.{ltb, leb, eqb}
 use lib.ListN.{length, getD, take, drop}
-use Rattle.std.specs.Iters.{counting}
 use Rattle.std.specs.shelf.Lists.{joined}
 use Rattle.std.specs.declared.result.Result.{Result}
 use Rattle.std.specs.declared.result.Result.the-variants.{Ok, Err}
 use Rattle.std.proofs.shelf.Counted.{map-counting-more, getD-map-counting, fill-by-all}
 use Rattle.std.proofs.shelf.Lists.{append-assoc, joined-more, take-more, getD-drop, length-drop, drop-all, drop-drop, take-append-drop}
-use Rattle.std.proofs.shelf.Tests.{and-parts, or-parts, leb-true, eqb-true, ltb-false, ltb-true, cond-true, cond-false, cases-bool}
+use Rattle.std.proofs.shelf.Tests.{and-parts, or-parts, leb-true, eqb-true, ltb-false, cond-true, cond-false, cases-bool}
 use Rattle.demand.specs.declared.fault.RecordStart.{RecordStart}
 use Rattle.demand.specs.declared.fault.FileFault.{FileFault}
 use Rattle.demand.specs.declared.fault.FileFault.the-variants.{CutShort, UnknownKind, WrongLength, RecordCount}
@@ -24,7 +23,7 @@ use Rattle.demand.proofs.Inverting.{then-went, passed, not-caught, same-ok}
 use Rattle.demand.proofs.Records.{rows-accepted, line-accepted}
 use Rattle.binder_file.specs.Format.{word-at, fields-at, length-at, kind-at, ends-inside, whole-fields, body-judged, kind-judged, record-judged, next-start, records-from, decode, word-bytes, record-words, record-bytes}
 use Rattle.binder_file.specs.Writing.{encode}
-use Rattle.binder_file.proofs.Format.{records-ended, record-first, decode-some, length-fields}
+use Rattle.binder_file.proofs.Format.{length-fields}
 
 -- bytes, as a file has them
 abbrev pub Bytes : List ℕ → Type 0

@@ -1,12 +1,10 @@
 use mathlib.Core.Path.{_≡_, refl, sym, ap, _∙_}
-use mathlib.Core.Bool.{Bool, true, false, cond, _&&_, _||_}
-use mathlib.Core.List.{List, [], _∷_, _++_, map}
-use Prim.Native.Nat.{ℕ, zero, suc, _+_, _-_, _*_, _/_, _%_, _<_, _≤_}
-use native.Mathlib.Nat.{add-assoc, add-zero}
+use mathlib.Core.Bool.{true, false}
+use mathlib.Core.List.{List, [], _∷_, _++_}
+use Prim.Native.Nat.{ℕ, zero, suc, _+_, _-_, _*_, _/_, _%_, _<_}
 use native.Mathlib.Omega.{arith}
-use lib.Dec.{ltb, leb, eqb}
+use lib.Dec.{eqb}
 use lib.ListN.{length, getD, take, drop}
-use Rattle.std.specs.Iters.{counting}
 use Rattle.std.specs.shelf.Lists.{joined}
 use Rattle.std.specs.declared.result.Result.{Result}
 use Rattle.std.specs.declared.result.Result.the-variants.{Ok, Err}
@@ -20,7 +18,7 @@ use Rattle.demand.specs.Over.{over}
 use Rattle.demand.specs.Sheets.{Declaration, rows, line}
 use Rattle.demand.specs.Kinds.{rows-record, line-record, kind-of, fields-of, making-judged}
 use Rattle.demand.proofs.Records.{rows-record-back, line-record-back}
-use Rattle.binder_file.specs.Format.{word-at, fields-at, length-at, kind-at, ends-inside, whole-fields, body-judged, kind-judged, record-judged, next-start, records-from, decode, word-bytes, record-words, record-bytes}
+use Rattle.binder_file.specs.Format.{word-at, fields-at, length-at, kind-at, ends-inside, whole-fields, body-judged, record-judged, next-start, records-from, decode, word-bytes, record-words, record-bytes}
 use Rattle.binder_file.proofs.Format.{records-ended, record-first, decode-some}
 
 pub length-words : (ws : List ℕ) → length (joined word-bytes ws) ≡ 2 * length ws
@@ -132,3 +130,11 @@ pub fields-put : (slots old fs : List ℕ) (count : ℕ) → slots ≡ over fs o
 fields-put slots old fs count e n =
     let z : count - 0 ≡ count = omega arith in
     ap (λ (m : ℕ). take m slots) z ∙ ap (λ (l : List ℕ). take count l) e ∙ take-at fs (drop (length fs) old) count (sym n)
+
+-- and where it is accepted, that sheet is all there is
+accepted-one : (m : Result (Unit {0}) FileFault) (d : Declaration) (ds : List Declaration) → Ok ds ≡ then m (λ _. Ok (d ∷ [])) → ds ≡ d ∷ []
+accepted-one (Ok u) d ds e = cc
+accepted-one (Err f) d ds e = let z : _≡_ {A = ℕ} 0 1 = cc in absurd (omega arith)
+
+pub alone-declares : (bs : List ℕ) (d : Declaration) (ds : List Declaration) → bs ≡ record-bytes d → decode bs ≡ Ok ds → ds ≡ d ∷ []
+alone-declares bs d ds e f = accepted-one (making-judged d first) d ds (sym f ∙ one-record bs d e)

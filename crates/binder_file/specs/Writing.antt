@@ -1,6 +1,6 @@
 use Prim.Native.Nat.{ℕ}
 use mathlib.Core.Bool.{cond}
-use mathlib.Core.List.{List, [], _∷_}
+use mathlib.Core.List.{List}
 use lib.Dec.{eqb, ltb}
 use lib.ListN.{length}
 use Rattle.std.specs.shelf.Lists.{joined}
@@ -11,14 +11,10 @@ use Rattle.binder_file.specs.Format.{record-bytes}
 use Rattle.binder_file.specs.declared.refusal.WriteRefusal.{WriteRefusal}
 use Rattle.binder_file.specs.declared.refusal.WriteRefusal.the-variants.{NoSheet, ShortBuffer}
 
--- a refusal's number, and all its values
-abbrev pub write-number : WriteRefusal → ℕ
-write-number NoSheet = 6
-write-number (ShortBuffer needed) = 7
-
-abbrev pub write-values : WriteRefusal → List ℕ
-write-values NoSheet = 6 ∷ 0 ∷ 0 ∷ []
-write-values (ShortBuffer needed) = 7 ∷ needed ∷ []
+-- a refusal's number and the bytes needed, 0 where no file would do
+abbrev pub write-numbers : WriteRefusal → ℕ × ℕ
+write-numbers NoSheet = (6, 0)
+write-numbers (ShortBuffer needed) = (7, needed)
 
 -- the file of some sheets
 abbrev pub encode : List Declaration → List ℕ

@@ -1,5 +1,5 @@
 ghost use mathlib.Core.Path.{_≡_};
-ghost use mathlib.Core.List.{_++_};
+ghost use mathlib.Core.List.{[], _∷_, _++_};
 ghost use Prim.Native.Nat.{ℕ, _+_, _<_, _≤_};
 ghost use lib.ListN.{length};
 ghost use mathlib.Core.Bool.{false};
@@ -70,7 +70,7 @@ fn read_sheets(bytes: &[u8]) -> Result<SheetBinder, FileFault>
 pub fn read_file(binder: &mut SheetBinder, bytes: &[u8]) -> Result<(), FileFault>
     ensures answer { λ r. ⌜ r ≡ meaning (λ _. tt {0}) (decode (now (bytes .entry))) ⌝ }
     ensures sheets { λ _. ⌜ declarations (now (binder .exit)) ≡ value-or (decode (now (bytes .entry))) (declarations (now (binder .entry))) ⌝ }
-    ensures alone_as_made { λ r. ⌜ ((d : Declaration) → now (bytes .entry) ≡ record-bytes d → r ≡ making-judged d (record { index = 0; place = 0 })) ⌝ }
+    ensures alone_as_made { λ r. ⌜ ((d : Declaration) → now (bytes .entry) ≡ record-bytes d → (r ≡ making-judged d (record { index = 0; place = 0 })) × (r ≡ Ok tt → declarations (now (binder .exit)) ≡ d ∷ [])) ⌝ }
     ensures writes_back { λ r. ⌜ (r ≡ Ok tt → encode (declarations (now (binder .exit))) ≡ now (bytes .entry)) ⌝ }
     ensures one_to_eight { λ r. ⌜ (r ≡ Ok tt → (1 ≤ length (declarations (now (binder .exit)))) × (length (declarations (now (binder .exit))) ≤ 8)) ⌝ }
     ensures near { λ r. ⌜ ((e : FileFault) → r ≡ Err e → fault-numbers e .2 < 65536) ⌝ }

@@ -1,9 +1,9 @@
 ghost use mathlib.Core.Path.{_≡_};
 ghost use mathlib.Core.Bool.{false};
-ghost use Prim.Native.Nat.{_+_, _*_, _^_, _<_, _≤_};
+ghost use Prim.Native.Nat.{_+_, _*_, _<_, _≤_};
 ghost use lib.Dec.{eqb};
 ghost use lib.ListN.{length, take};
-ghost use Rattle.binder_file.specs.Format.{word-at, fields-at, kind-at, ends-inside, whole-fields, body-judged, kind-judged, record-judged};
+ghost use Rattle.binder_file.specs.Format.{word-at, fields-at, kind-at, ends-inside, whole-fields, body-judged, record-judged};
 ghost use Rattle.demand.specs.Faults.{meaning};
 ghost use Rattle.demand.specs.Sheets.{declared};
 use demand::FileFault;

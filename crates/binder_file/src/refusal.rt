@@ -1,6 +1,5 @@
-ghost use mathlib.Core.List.{List};
 ghost use mathlib.Core.Path.{_≡_};
-ghost use Rattle.binder_file.specs.Writing.{write-number};
+ghost use Rattle.binder_file.specs.Writing.{write-numbers};
 use demand::Refusal;
 
 // Why a binder is not written.
@@ -12,13 +11,22 @@ pub enum WriteRefusal {
     ShortBuffer(usize),
 }
 
+impl WriteRefusal {
+    // The refusal's number, with the bytes needed.
+    pub fn numbers(&self) -> (u32, usize)
+        ensures { λ r. ⌜ r ≡ write-numbers (now (self .entry)) ⌝ }
+    {
+        match *self {
+            WriteRefusal::NoSheet => (6, 0),
+            WriteRefusal::ShortBuffer(needed) => (7, needed),
+        }
+    }
+}
+
 pub impl Refusal for WriteRefusal as WriteRefusalRefusal {
-    ghost numbered = { write-number };
+    ghost numbered = { λ x. write-numbers x .0 };
 
     fn number(&self) -> u32 {
-        match *self {
-            WriteRefusal::NoSheet => 6,
-            WriteRefusal::ShortBuffer(_) => 7,
-        }
+        self.numbers().0
     }
 }

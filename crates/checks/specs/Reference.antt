@@ -4,7 +4,6 @@ use mathlib.Core.List.{List, [], _∷_, map}
 use Rattle.std.specs.declared.result.Result.{Result}
 use Rattle.std.specs.declared.result.Result.the-variants.{Ok, Err}
 use Rattle.demand.specs.declared.row.Row.{Row}
-use Rattle.demand.specs.declared.line.Line.{Line}
 use Rattle.demand.specs.declared.fault.FileFault.{FileFault}
 use Rattle.demand.specs.declared.task.Task.{Task}
 use Rattle.demand.specs.Faults.{fault-numbers}

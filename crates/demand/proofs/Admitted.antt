@@ -1,12 +1,12 @@
 use mathlib.Core.Path.{_≡_, refl, sym, ap, _∙_}
 use mathlib.Core.Bool.{Bool, true, false, cond}
-use mathlib.Core.Logic.{_⊎_, inl, inr, ⊎-elim}
+use mathlib.Core.Logic.{_⊎_, ⊎-elim}
 use Prim.Native.Nat.{ℕ, zero, suc, _+_, _-_, _*_, _^_, _<_, _≤_}
 use native.Mathlib.Nat.{mul-le-mul-left}
 use native.Mathlib.Numerals.{add-one}
 use native.Mathlib.Omega.{arith}
 use lib.Dec.{ltb, leb}
-use Rattle.std.proofs.shelf.Tests.{cond-true, cond-false, and-from, and-left, and-right, le-leb, leb-true, lt-leb, lt-ltb, le-ltb, ltb-true, ltb-false, cases-lt, cases-bool}
+use Rattle.std.proofs.shelf.Tests.{cond-true, cond-false, and-from, and-left, and-right, le-leb, leb-true, lt-leb, lt-ltb, le-ltb, ltb-false, cases-lt, cases-bool}
 use Rattle.std.specs.declared.option.Option.{Option}
 use Rattle.std.specs.declared.option.Option.the-variants.{Some, None}
 use Rattle.std.specs.declared.result.Result.{Result}
@@ -17,7 +17,7 @@ use Rattle.demand.specs.Fields.{from-to}
 use Rattle.demand.proofs.Firsts.{first-here, first-later, first-none}
 use Rattle.demand.proofs.Rows.{range-from}
 use Rattle.demand.specs.Verdicts.{verdict-numbers}
-use Rattle.demand.specs.Admission.{total, demand, first-where, first-exceeded, by-gains, admission, DemandFits, slack, Tightest}
+use Rattle.demand.specs.Admission.{total, demand, first-where, first-exceeded, by-gains, admission, DemandFits}
 
 -- one component more
 pub total-more : (n : ℕ) (f : ℕ → ℕ) → total (n + 1) f ≡ total n f + f n

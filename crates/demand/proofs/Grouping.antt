@@ -1,15 +1,15 @@
 use mathlib.Core.Path.{_≡_, refl, sym, ap, subst, _∙_}
-use mathlib.Core.Bool.{Bool, true, false, cond, _&&_, _||_}
+use mathlib.Core.Bool.{Bool, true, false, cond, _&&_}
 use mathlib.Core.List.{List, [], _∷_, _++_}
-use mathlib.Core.Logic.{_⊎_, inl, inr, ⊎-elim}
-use Prim.Native.Nat.{ℕ, zero, suc, _+_, _*_, _<_, _≤_}
+use mathlib.Core.Logic.{_⊎_, ⊎-elim}
+use Prim.Native.Nat.{ℕ, _+_, _≤_}
 use native.Mathlib.Omega.{arith}
-use lib.Dec.{ltb, leb, eqb}
-use lib.ListN.{length, getD, take}
-use Rattle.std.specs.shelf.Lists.{All, sumBy, countBy}
+use lib.Dec.{eqb}
+use lib.ListN.{length}
+use Rattle.std.specs.shelf.Lists.{All}
 use Rattle.std.proofs.shelf.Elements.{all-weaker}
 use Rattle.std.proofs.shelf.Sums.{sumBy-cons, sumBy-append}
-use Rattle.std.proofs.shelf.Tests.{cond-true, cond-false, and-parts, and-from, or-cases, or-left, or-right, eqb-true, eq-eqb, ne-eqb, ltb-true, lt-ltb, le-ltb, cases-bool, cases-order, true≢false}
+use Rattle.std.proofs.shelf.Tests.{cond-true, cond-false, and-parts, and-from, eqb-true, eq-eqb, ne-eqb, cases-bool}
 use Rattle.std.proofs.shelf.Ways.{tells}
 use Rattle.demand.specs.declared.row.Row.{Row}
 use Rattle.demand.specs.Rows.{before}

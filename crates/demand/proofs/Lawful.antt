@@ -2,24 +2,22 @@ use mathlib.Core.Path.{_≡_, refl, sym, ap, _∙_}
 use mathlib.Core.Bool.{Bool, true, false, cond, _&&_}
 use mathlib.Core.List.{List, [], _∷_, map}
 use Prim.Native.Nat.{ℕ, zero, suc, _+_, _-_, _*_, _/_, _%_, _^_, _<_, _≤_}
-use native.Mathlib.Nat.{div-mul-le-self, mul-le-mul-left, mul-le-mul-right, div-le-of-le-mul, add-mul-div-left, div-eq-of-eq-mul-right, div-add-mod, mul-add, mul-assoc, mul-comm, mul-one, add-zero, zero-add, mul-mod-right}
+use native.Mathlib.Nat.{div-mul-le-self, mul-le-mul-left, mul-le-mul-right, div-le-of-le-mul, add-mul-div-left, div-eq-of-eq-mul-right, div-add-mod, mul-add, mul-assoc, mul-comm, mul-mod-right}
 use native.Mathlib.Omega.{arith}
 use lib.Dec.{ltb, leb}
-use lib.ListN.{length, take}
+use lib.ListN.{length}
 use Rattle.std.specs.shelf.Lists.{All, sumBy}
 use Rattle.std.proofs.shelf.Bits.{le-div, pow-add}
 use Rattle.std.proofs.shelf.Sums.{sumBy-cons}
 use Rattle.std.proofs.shelf.Tests.{cond-both, cond-false, ltb-true, ltb-false, le-ltb, lt-ltb, cond-true, and-parts, leb-true}
 use Rattle.demand.specs.declared.row.Row.{Row}
 use Rattle.demand.specs.declared.line.Line.{Line}
-use Rattle.demand.specs.declared.row_sheet.RowSheet.{RowSheet}
-use Rattle.demand.specs.declared.line_sheet.LineSheet.{LineSheet}
 use Rattle.demand.specs.declared.sheet.Sheet.{Sheet}
 use Rattle.demand.specs.declared.sheet.Sheet.the-variants.{Rows, Line as Straight}
 use Rattle.demand.specs.Fields.{power-of-two, from-to}
 use Rattle.demand.specs.Rows.{row-bound, row-gain}
-use Rattle.demand.specs.Lines.{line-bound, line-gain, line-judged, sound-line}
-use Rattle.demand.specs.Sheets.{sheet-rows, Declaration, declared, bound-of, gain-of, component-bound, component-gain}
+use Rattle.demand.specs.Lines.{line-bound, line-gain, sound-line}
+use Rattle.demand.specs.Sheets.{sheet-rows, declared, bound-of, gain-of, component-bound, component-gain}
 use Rattle.demand.proofs.Rows.{Ranges, power-pos, power-from, range-from, sound-all, line-ok, row-steps-fit}
 
 -- the laws of one component's bound f with the gain g, m being the most at lengths of 32 bits

@@ -3,7 +3,7 @@ use mathlib.Core.List.{List, [], _∷_, _++_}
 use Prim.Native.Nat.{ℕ, _+_, _<_, _≤_}
 use native.Mathlib.Omega.{arith}
 use lib.ListN.{length, drop, set}
-use Rattle.std.proofs.shelf.Lists.{append-assoc, append-nil, drop-more, set-at, length-push, length-append, length-drop}
+use Rattle.std.proofs.shelf.Lists.{append-assoc, drop-more, set-at, length-push, length-append, length-drop}
 use Rattle.demand.specs.Over.{over}
 
 -- one element more is written
@@ -13,13 +13,6 @@ over-more {X} first old n x e h =
     ∙ set-at first _ (drop (length first + 1) old) x n (sym e)
     ∙ sym (append-assoc first (x ∷ []) (drop (length first + 1) old))
     ∙ ap (λ (m : ℕ). (first ++ x ∷ []) ++ drop m old) (sym (length-push first x))
-
--- nothing is written
-pub over-none : {X : Type 0} (old : List X) → over [] old ≡ old
-over-none old = refl
-
-pub length-over : {X : Type 0} (first old : List X) → length first ≤ length old → length (over first old) ≡ length old
-length-over first old h = omega (arith, length-append first (drop (length first) old), length-drop (length first) old)
 
 -- two elements more, and four
 pub over-two : {X : Type 0} (first old : List X) (n : ℕ) (a b : X) → n ≡ length first → n + 2 ≤ length old → set (set (over first old) n a) (n + 1) b ≡ over (first ++ a ∷ b ∷ []) old

@@ -1,11 +1,11 @@
-use mathlib.Core.Path.{_≡_, refl, sym, ap, _∙_}
-use mathlib.Core.Bool.{Bool, true, false, cond}
+use mathlib.Core.Path.{_≡_, sym, ap, _∙_}
+use mathlib.Core.Bool.{true, false, cond}
 use mathlib.Core.List.{List, [], _∷_, _++_}
 use mathlib.Core.Logic.{⊎-elim}
 use Prim.Native.Nat.{ℕ, _+_, _-_, _<_, _≤_}
 use native.Mathlib.Omega.{arith}
 use lib.ListN.{length, getD, take, drop, set}
-use Rattle.std.proofs.shelf.Lists.{append-assoc, drop-more, drop-take, drop-set-lt, drop-all, take-more-set, take-take, take-append-drop, getD-take, length-take-le, length-append, length-push}
+use Rattle.std.proofs.shelf.Lists.{append-assoc, drop-more, drop-take, drop-set-lt, drop-all, take-more-set, take-take, take-append-drop, getD-take, length-take-le, length-push}
 use Rattle.std.proofs.shelf.Tests.{cond-true, cond-false, cases-bool}
 use Rattle.demand.specs.declared.row.Row.{Row}
 use Rattle.demand.specs.Rows.{before}

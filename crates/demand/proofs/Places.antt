@@ -1,8 +1,8 @@
-use mathlib.Core.Path.{_≡_, refl, sym, ap, _∙_}
+use mathlib.Core.Path.{_≡_, refl}
 use mathlib.Core.Bool.{Bool, true, false, cond}
 use mathlib.Core.List.{List, [], _∷_}
-use mathlib.Core.Logic.{_⊎_, inl, inr, ⊎-elim}
-use Prim.Native.Nat.{ℕ, _+_, _*_, _/_, _%_, _<_, _≤_}
+use mathlib.Core.Logic.{_⊎_, ⊎-elim}
+use Prim.Native.Nat.{ℕ, _+_, _*_, _%_, _≤_}
 use native.Mathlib.Omega.{arith}
 use lib.Dec.{eqb, leb}
 use lib.ListN.{length}
@@ -12,18 +12,14 @@ use Rattle.std.specs.declared.result.Result.{Result}
 use Rattle.std.specs.declared.result.Result.the-variants.{Ok, Err}
 use Rattle.std.proofs.shelf.Tests.{cases-bool, cond-true, cond-false}
 use Rattle.demand.specs.declared.row.Row.{Row}
-use Rattle.demand.specs.declared.line.Line.{Line}
-use Rattle.demand.specs.declared.fault.Location.{Location}
 use Rattle.demand.specs.declared.fault.RecordStart.{RecordStart}
 use Rattle.demand.specs.declared.fault.FileFault.{FileFault}
-use Rattle.demand.specs.declared.fault.FileFault.the-variants.{OutOfOrder, OutOfRange, WrongLength}
+use Rattle.demand.specs.declared.fault.FileFault.the-variants.{OutOfOrder, WrongLength}
 use Rattle.demand.specs.Faults.{spot, then, fault-numbers}
 use Rattle.demand.specs.Fields.{power-of-two, from-to, field}
 use Rattle.demand.specs.Rows.{row-fields, before, in-order, row-judged, rows-from, rows-judged}
 use Rattle.demand.specs.Lines.{line-judged}
-use Rattle.demand.specs.Sheets.{Declaration, rows, line}
 use Rattle.demand.specs.Kinds.{rows-in, line-in, rows-record, line-record}
-use Rattle.demand.proofs.Records.{length-rows-in}
 use Rattle.demand.proofs.Rows.{range-from}
 
 -- a fault, if there is one, lies at m or before

@@ -1,5 +1,5 @@
 use mathlib.Core.Path.{_≡_, refl, sym, ap, _∙_}
-use mathlib.Core.Bool.{true, false, cond}
+use mathlib.Core.Bool.{true, false}
 use mathlib.Core.List.{List, [], _∷_, _++_, map}
 use mathlib.Core.Logic.{_⊎_, ⊎-elim}
 use Prim.Native.Nat.{ℕ, zero, suc, _+_, _*_, _/_, _%_, _<_, _≤_}
@@ -15,7 +15,7 @@ use Rattle.std.specs.declared.result.Result.{Result}
 use Rattle.std.specs.declared.result.Result.the-variants.{Ok, Err}
 use Rattle.std.proofs.shelf.Counted.{length-map-counting, fill-by-all, map-counting-more}
 use Rattle.std.proofs.shelf.Lists.{getD-append-add, append-assoc, take-more, take-all, joined-more}
-use Rattle.std.proofs.shelf.Tests.{cond-true, cond-false, eq-eqb, ne-eqb, cases-bool, and-right, lt-leb, eqb-true, true≢false}
+use Rattle.std.proofs.shelf.Tests.{cond-true, cond-false, eq-eqb, cases-bool, and-right, lt-leb, eqb-true, true≢false}
 use Rattle.demand.specs.declared.line.Line.{Line}
 use Rattle.demand.specs.declared.line_sheet.LineSheet.{LineSheet}
 use Rattle.demand.specs.declared.row.Row.{Row}

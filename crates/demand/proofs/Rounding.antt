@@ -1,21 +1,20 @@
 use mathlib.Core.Path.{_≡_, refl, sym, ap, _∙_}
-use mathlib.Core.Bool.{Bool, true, false, cond, _&&_, _||_}
+use mathlib.Core.Bool.{true, false, cond, _&&_}
 use mathlib.Core.List.{List, [], _∷_}
 use mathlib.Core.Logic.{⊎-elim}
 use Prim.Native.Nat.{ℕ, zero, suc, _+_, _*_, _^_, _<_, _≤_}
 use native.Mathlib.Numerals.{add-one}
 use native.Mathlib.Omega.{arith}
-use lib.Dec.{ltb, leb, eqb}
+use lib.Dec.{leb, eqb}
 use lib.Pow.{pow-mono}
 use Rattle.std.proofs.shelf.Bits.{pow-pos, pow-add}
-use Rattle.std.proofs.shelf.Tests.{cond-both, cond-true, cond-false, and-parts, and-from, or-left, or-right, or-cases, eq-eqb, eqb-true, le-leb, leb-true, leb-false, lt-leb, cases-bool}
+use Rattle.std.proofs.shelf.Tests.{cond-both, cond-true, cond-false, and-parts, and-from, or-left, or-right, or-cases, eq-eqb, eqb-true, le-leb, leb-false, lt-leb, cases-bool}
 use Rattle.std.specs.shelf.Lists.{All}
 use Rattle.std.specs.declared.option.Option.{Option}
-use Rattle.std.specs.declared.option.Option.the-variants.{Some, None}
+use Rattle.std.specs.declared.option.Option.the-variants.{Some}
 use Rattle.demand.specs.declared.row.Row.{Row}
 use Rattle.demand.specs.declared.task.Task.{Task}
 use Rattle.demand.specs.Fields.{power-up-to, power-of-two, from-to}
-use Rattle.demand.specs.Rows.{before}
 use Rattle.demand.specs.Tasks.{power-below, power-above, task-sound, rounded, Ascending}
 use Rattle.demand.proofs.Rows.{row-ranges, rows-fine, follows, range-from}
 

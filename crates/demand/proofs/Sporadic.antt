@@ -7,12 +7,12 @@ use native.Mathlib.Nat.{mul-le-mul-left, div-mul-le-self, mul-assoc, mul-comm, m
 use native.Mathlib.Omega.{arith}
 use lib.Dec.{leb, ltb}
 use lib.ListN.{length, replicate}
-use Rattle.std.specs.shelf.Lists.{All, sumBy, countBy}
+use Rattle.std.specs.shelf.Lists.{All, sumBy}
 use Rattle.std.proofs.shelf.Bits.{le-div}
 use Rattle.std.proofs.shelf.Elements.{all-weaker}
 use Rattle.std.proofs.shelf.Lists.{length-replicate}
 use Rattle.std.proofs.shelf.Sums.{sumBy-le, sumBy-cons}
-use Rattle.std.proofs.shelf.Tests.{and-parts, and-from, le-leb, leb-true, cond-true, cond-false, lt-ltb, le-ltb, cases-bool, cases-lt}
+use Rattle.std.proofs.shelf.Tests.{and-parts, and-from, le-leb, leb-true, cond-true, cond-false, lt-ltb, le-ltb, cases-lt}
 use Rattle.demand.specs.declared.row.Row.{Row}
 use Rattle.demand.specs.Rows.{row-bound, rows-bound}
 use Rattle.demand.specs.Sporadic.{Sporadic, jobs-within, Behaviour, Behaviours, work, MostWork}

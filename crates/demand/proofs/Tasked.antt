@@ -1,35 +1,33 @@
 use mathlib.Core.Path.{_≡_, refl, sym, ap, subst, _∙_}
 use mathlib.Core.Bool.{Bool, true, false, cond, not, _&&_, _||_}
-use mathlib.Core.List.{List, [], _∷_, _++_, map}
-use mathlib.Core.Logic.{_⊎_, inl, inr, ⊎-elim}
-use Prim.Native.Nat.{ℕ, zero, suc, _+_, _-_, _*_, _<_, _≤_}
+use mathlib.Core.List.{List, [], _∷_, _++_}
+use mathlib.Core.Logic.{_⊎_, ⊎-elim}
+use Prim.Native.Nat.{ℕ, zero, suc, _+_, _-_, _<_, _≤_}
 use native.Mathlib.Omega.{arith}
 use lib.Dec.{ltb, leb, eqb}
 use lib.ListN.{length, getD, take}
-use Rattle.std.specs.shelf.Lists.{All, countBy}
+use Rattle.std.specs.shelf.Lists.{All}
 use Rattle.std.specs.declared.option.Option.{Option}
 use Rattle.std.specs.declared.option.Option.the-variants.{Some, None}
-use Rattle.std.specs.declared.result.Result.{Result}
-use Rattle.std.specs.declared.result.Result.the-variants.{Ok, Err}
-use Rattle.std.proofs.shelf.Elements.{all-weaker, all-getD}
-use Rattle.std.proofs.shelf.Lists.{length-map, take-more, map-more, getD-map, take-all}
+use Rattle.std.specs.declared.result.Result.the-variants.{Ok}
+use Rattle.std.proofs.shelf.Elements.{all-weaker}
+use Rattle.std.proofs.shelf.Lists.{take-more, take-all}
 use Rattle.std.proofs.shelf.Sums.{sumBy-append, sumBy-cons}
-use Rattle.std.proofs.shelf.Tests.{cond-true, cond-false, and-from, eq-eqb, cases-bool, cases-lt, not-false, not-from-true, le-ltb, eqb-false, ltb-false, true≢false, le-leb}
+use Rattle.std.proofs.shelf.Tests.{cond-true, cond-false, and-from, eq-eqb, cases-bool, cases-lt, not-false, le-ltb, eqb-false, ltb-false, le-leb}
 use Rattle.std.proofs.shelf.Ways.{tells}
 use Rattle.demand.specs.declared.row.Row.{Row}
 use Rattle.demand.specs.declared.task.Task.{Task}
 use Rattle.demand.specs.declared.task.MakeRefusal.{MakeRefusal}
-use Rattle.demand.specs.declared.task.MakeRefusal.the-variants.{TaskOutOfRange, NoRoom}
-use Rattle.demand.specs.Admission.{total, first-where}
-use Rattle.demand.specs.Fields.{from-to}
+use Rattle.demand.specs.declared.task.MakeRefusal.the-variants.{TaskOutOfRange}
+use Rattle.demand.specs.Admission.{first-where}
 use Rattle.demand.specs.Rows.{sound-rows}
 use Rattle.demand.specs.Placing.{joined-copies, placed, no-room}
-use Rattle.demand.specs.Tasks.{task-sound, rounded, alike, how-many, copies-of, Ascending, Grouped, no-row, no-task, different, crowded, refused-by, tasks-in-range}
+use Rattle.demand.specs.Tasks.{task-sound, rounded, alike, how-many, copies-of, Grouped, no-row, no-task, different, crowded, refused-by, tasks-in-range}
 use Rattle.demand.proofs.Admitted.{total-more}
 use Rattle.demand.proofs.Grouping.{placed-all, placed-length, copies-most, grouped-more}
 use Rattle.demand.proofs.Inverting.{not-caught}
 use Rattle.demand.proofs.Rounding.{rounded-ranges, fine-from, joined-ranges}
-use Rattle.demand.proofs.Rows.{row-ranges, rows-fine, follows, judged-ok}
+use Rattle.demand.proofs.Rows.{row-ranges, follows, judged-ok}
 
 -- a list of 1 to 64 tasks is judged task by task
 pub tasks-sized : (ts : List Task) → eqb (length ts) 0 ≡ false → length ts ≤ 64 → tasks-in-range ts ≡ refused-by TaskOutOfRange (first-where (λ i. not (task-sound (getD ts i no-task))) 0 (length ts))
@@ -76,9 +74,6 @@ pub record Filled (ks : List Row) (i : ℕ) (rs : List Row) : Type 0 where
   pub sized : length rs ≡ different ks i
   pub few : length rs ≤ 8
   pub ranged : All (λ r. row-ranges r ≡ true) rs
-
-pub filled-none : (ks : List Row) → Filled ks 0 []
-filled-none ks = record { grouped = record { ordered = tt; present = tt; counted = λ k. refl }; sized = refl; few = omega arith; ranged = tt }
 
 alike-self : (r : Row) → alike r r ≡ true
 alike-self r = and-from _ _ (eq-eqb (r .period) (r .period) refl) (and-from _ _ (eq-eqb (r .deadline) (r .deadline) refl) (eq-eqb (r .budget) (r .budget) refl))

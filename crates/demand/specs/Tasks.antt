@@ -1,4 +1,4 @@
-use Prim.Native.Nat.{ℕ, zero, suc, _+_, _*_, _^_, _≤_}
+use Prim.Native.Nat.{ℕ, zero, suc, _+_, _^_, _≤_}
 use mathlib.Core.Path.{_≡_}
 use mathlib.Core.Bool.{Bool, true, cond, not, _&&_, _||_}
 use mathlib.Core.List.{List, [], _∷_, map}
@@ -62,6 +62,7 @@ pub record Grouped (ks rs : List Row) : Type 0 where
   pub present : All (λ r. 1 ≤ r .copies) rs
   pub counted : (k : Row) → copies-of k rs ≡ how-many k ks
 
+-- stands behind the end of a list, and is never asked for
 abbrev pub no-row : Row
 no-row = record { period = 0; deadline = 0; budget = 0; copies = 0 }
 
@@ -78,6 +79,7 @@ abbrev pub refused-by : (ℕ → MakeRefusal) → Option ℕ → Result (Unit {0
 refused-by refusal None = Ok tt
 refused-by refusal (Some i) = Err (refusal i)
 
+-- likewise
 abbrev pub no-task : Task
 no-task = record { period = 0; deadline = 0; budget = 0 }
 

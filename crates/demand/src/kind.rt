@@ -16,11 +16,13 @@ use crate::fault::RecordStart;
 
 // A kind of sheet: its number in a file, and how its fields, two bytes each, are read and written.
 pub trait SheetKind: Sized {
+    // The number that names the kind in a file.
     const KIND: u16;
 
     // `KIND`, as a clause can speak of it.
     ghost number: { ℕ };
 
+    // What a sheet of this kind declares.
     ghost declares: { Self → Declaration };
 
     law named: { (x : Self) → kind-of (declares x) ≡ number };
@@ -34,9 +36,11 @@ pub trait SheetKind: Sized {
     // Nor has a sheet that exists.
     law slots: { (x : Self) → length (fields-of (declares x)) ≤ 40 };
 
+    // `KIND`, with a contract.
     fn tag() -> u16
         ensures { λ r. ⌜ r ≡ number ⌝ };
 
+    // The sheet of these fields, which stand in the record at `start`.
     fn from_fields(fields: &[u16], start: RecordStart) -> Result<Self, FileFault>
         ensures { λ r. ⌜ meaning declares r ≡ judged (now (fields .entry)) start ⌝ };
 

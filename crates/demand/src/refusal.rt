@@ -1,7 +1,7 @@
 ghost use mathlib.Core.Path.{_≡_};
 ghost use Prim.Native.Nat.{ℕ, _≤_};
 
-// Anything that a call can be refused with. Every refusal has a number of its own, from 1 to 19.
+// Anything that a call can be refused with. Its number is from 1 to 19.
 pub trait Refusal {
     ghost numbered: { Self → ℕ };
 

@@ -14,7 +14,7 @@ pub struct Task {
 // Why no sheet is made of a task list.
 #[derive(Clone, Copy, PartialEq, Eq, Debug)]
 pub enum MakeRefusal {
-    // this task is out of range; 0 for an empty list, 64 for a longer one
+    // this task is out of range; 0 for an empty list, 64 for one of more than 64 tasks
     TaskOutOfRange(usize),
     // this task would need a ninth row or a seventeenth copy
     NoRoom(usize),

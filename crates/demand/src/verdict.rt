@@ -9,7 +9,7 @@ pub enum TestRefusal {
     DemandExceeds(u32),
     // the gains add up to more than 4,096
     GainsExceed,
-    // no sheet, or nine and more
+    // no component, or nine and more
     SheetCount,
 }
 

@@ -1,9 +1,9 @@
 -- The full rules fix every answer, and imply the weak ones; so every history that follows them over an admitted binder is certified.
 use mathlib.Core.Path.{_≡_, refl, sym, ap, _∙_}
 use mathlib.Core.Bool.{Bool, true, false, cond, not}
-use mathlib.Core.List.{List, [], _∷_}
+use mathlib.Core.List.{[], _∷_}
 use mathlib.Core.Logic.{_⊎_, inl, inr, ⊎-elim}
-use Prim.Native.Nat.{ℕ, zero, suc, _+_, _≤_, _<_}
+use Prim.Native.Nat.{ℕ, zero, suc, _+_, _≤_}
 use native.Mathlib.Omega.{arith}
 use lib.Dec.{eqb, leb}
 use Rattle.std.specs.Results.{isOk}
@@ -13,17 +13,15 @@ use Rattle.std.specs.declared.result.Result.{Result}
 use Rattle.std.specs.declared.result.Result.the-variants.{Ok, Err}
 use Rattle.std.proofs.shelf.Tests.{leb-false, not-false, true≢false}
 use Rattle.demand.specs.declared.verdict.TestRefusal.{TestRefusal}
-use Rattle.demand.specs.Admission.{total, admission}
 use Rattle.demand.specs.Fields.{from-to}
 use Rattle.demand.proofs.Admitted.{admitted-fits}
 use Rattle.demand.proofs.Rows.{range-from}
-use Rattle.scheduler.specs.History.{Call, Event, History, Job, Fate, clock, count, job, units, fate, Open, Cuts, Counts}
-use Rattle.scheduler.specs.History.Call.{arrive, finish, tick}
+use Rattle.scheduler.specs.History.{Call, Event, History, Fate, clock, count, job, units, fate, Cuts, Counts}
 use Rattle.scheduler.specs.History.Event.{arrived, finished, ticked, refused}
 use Rattle.scheduler.specs.History.Fate.{pending, done, cut}
-use Rattle.scheduler.specs.Windows.{Ready, Held}
-use Rattle.scheduler.specs.Rules.{Plan, admitted, is-pending, arrive-refusal, finish-refusal, tick-refusal, GoesBefore, RunsFirst, refusal-of, call-of, Answers, Follows, Certified}
-use Rattle.scheduler.proofs.Weak.{Fair, May, MayAll}
+use Rattle.scheduler.specs.Windows.{Held}
+use Rattle.scheduler.specs.Rules.{Plan, admitted, is-pending, GoesBefore, RunsFirst, refusal-of, call-of, Answers, Follows, Certified}
+use Rattle.scheduler.proofs.Weak.{May, MayAll}
 use Rattle.scheduler.proofs.Soundness.{always-certified}
 
 -- a refusal that does not apply

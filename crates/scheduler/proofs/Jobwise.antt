@@ -1,14 +1,12 @@
 -- Only windows from the arrival of a job to the due tick of a job of the same component matter.
-use mathlib.Core.Path.{_≡_, refl, sym, ap, subst, _∙_}
-use mathlib.Core.Bool.{Bool, true, false, cond, _&&_}
-use mathlib.Core.List.{List, [], _∷_}
+use mathlib.Core.Path.{_≡_, refl, sym, ap, _∙_}
+use mathlib.Core.Bool.{Bool, true, false, cond}
 use mathlib.Core.Logic.{_⊎_, inl, inr, ⊎-elim}
-use Prim.Native.Nat.{ℕ, zero, suc, _+_, _-_, _≤_, _<_}
+use Prim.Native.Nat.{ℕ, zero, suc, _-_, _≤_, _<_}
 use native.Mathlib.Omega.{arith}
-use lib.Dec.{eqb, leb}
-use Rattle.std.proofs.shelf.Tests.{cases-bool, cases-lt, cond-true, cond-false, both-ways}
-use Rattle.scheduler.specs.History.{History, Job, count, job, units, Lies, inside, load}
-use Rattle.scheduler.specs.Windows.{Room, Free, FreeAtJobs}
+use Rattle.std.proofs.shelf.Tests.{cases-bool, cases-lt, both-ways}
+use Rattle.scheduler.specs.History.{History, count, job, units, inside, load}
+use Rattle.scheduler.specs.Windows.{Free, FreeAtJobs}
 use Rattle.scheduler.proofs.Loads.{inside-true, inside-from}
 use Rattle.scheduler.proofs.Sums.{sum-le}
 

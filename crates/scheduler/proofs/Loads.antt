@@ -2,18 +2,16 @@
 use mathlib.Core.Path.{_≡_, refl, sym, ap, subst, _∙_}
 use mathlib.Core.Logic.{_⊎_, inl, inr, ⊎-elim}
 use mathlib.Core.Bool.{Bool, true, false, cond, _&&_}
-use mathlib.Core.List.{List, [], _∷_, _++_}
-use Prim.Native.Nat.{ℕ, zero, suc, _+_, _≤_, _<_}
+use mathlib.Core.List.{[], _∷_}
+use Prim.Native.Nat.{ℕ, suc, _+_, _≤_, _<_}
 use native.Mathlib.Omega.{arith}
-use lib.Dec.{eqb, leb, ltb}
-use lib.ListN.{length, getD}
-use Rattle.std.specs.declared.option.Option.{Option}
+use lib.Dec.{eqb, leb}
 use Rattle.std.specs.declared.option.Option.the-variants.{Some, None}
 use Rattle.std.proofs.shelf.Lists.{length-push, getD-push, getD-append-left}
-use Rattle.std.proofs.shelf.Tests.{cases-lt, cases-eq, cases-bool, cond-true, cond-false, true≢false, false≢true, and-parts, and-from, and-left, eqb-true, eqb-false, leb-true, ltb-true, le-leb, eq-eqb, ne-eqb, le-ltb}
+use Rattle.std.proofs.shelf.Tests.{cases-lt, cases-eq, cases-bool, cond-true, cond-false, true≢false, false≢true, and-parts, and-from, and-left, eqb-true, leb-true, le-leb, eq-eqb, ne-eqb}
 use Rattle.demand.specs.Admission.{total}
-use Rattle.scheduler.specs.History.{Event, History, Job, no-job, Fate, clock, jobs, count, job, gives, units, ends, late, fate, inside, load}
-use Rattle.scheduler.specs.History.Event.{arrived, finished, ticked, refused}
+use Rattle.scheduler.specs.History.{History, Job, no-job, Fate, clock, jobs, count, job, gives, units, ends, fate, inside, load}
+use Rattle.scheduler.specs.History.Event.{arrived, ticked}
 use Rattle.scheduler.specs.History.Fate.{pending, done, cut}
 use Rattle.scheduler.proofs.Sums.{sum-same, sum-le, sum-more, sum-has}
 

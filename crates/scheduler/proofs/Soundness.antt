@@ -1,23 +1,23 @@
 -- What every history that follows the rules keeps.
-use mathlib.Core.Path.{_≡_, refl, sym, ap, subst, _∙_}
+use mathlib.Core.Path.{_≡_, refl, sym, subst, _∙_}
 use mathlib.Core.Logic.{_⊎_, inl, inr, ⊎-elim}
-use mathlib.Core.Bool.{Bool, true, false, cond, _&&_}
-use mathlib.Core.List.{List, [], _∷_, _++_}
-use Prim.Native.Nat.{ℕ, zero, suc, _+_, _-_, _≤_, _<_}
+use mathlib.Core.Bool.{true}
+use mathlib.Core.List.{[], _∷_}
+use Prim.Native.Nat.{ℕ, _+_, _-_, _≤_, _<_}
 use native.Mathlib.Omega.{arith}
 use lib.Dec.{eqb, leb, ltb}
 use Rattle.std.specs.declared.option.Option.{Option}
 use Rattle.std.specs.declared.option.Option.the-variants.{Some, None}
 use Rattle.std.proofs.shelf.Lists.{length-push}
-use Rattle.std.proofs.shelf.Tests.{cond-true, cond-false, cases-lt, cases-eq, cases-bool, and-parts, and-left, and-from, leb-true, leb-false, ltb-true, lt-ltb, le-leb, le-ltb, ne-eqb, both-ways, cond-both}
+use Rattle.std.proofs.shelf.Tests.{cond-false, cases-lt, cases-bool, and-parts, and-left, and-from, leb-true, lt-ltb, le-leb, le-ltb, ne-eqb, both-ways}
 use Rattle.demand.specs.Admission.{total}
-use Rattle.scheduler.specs.History.{Call, Event, History, Job, Fate, clock, jobs, count, job, gives, units, ends, late, fate, Open, Live, inside, load}
+use Rattle.scheduler.specs.History.{Call, History, Job, clock, jobs, count, job, gives, units, late, fate, Open, Live, inside, load}
 use Rattle.scheduler.specs.History.Event.{arrived, finished, ticked, refused}
 use Rattle.scheduler.specs.History.Fate.{pending, done, cut}
 use Rattle.scheduler.specs.Windows.{Free, Spent, Ready}
 use Rattle.scheduler.specs.Rules.{Certified}
-use Rattle.scheduler.proofs.Weak.{Fair, Picks, May, MayAll}
-use Rattle.scheduler.proofs.Sums.{sum-same, sum-le, sum-more, sum-less}
+use Rattle.scheduler.proofs.Weak.{Fair, Picks, MayAll}
+use Rattle.scheduler.proofs.Sums.{sum-same, sum-more, sum-less}
 use Rattle.scheduler.proofs.Windows.{free-or-full}
 use Rattle.scheduler.proofs.Loads.{horizon, load-past, due-before, born, inside-true, inside-from, inside-other, each-arrived, load-arrived, load-idle, load-in, load-out, gives-other, pending-cut, done-pending, cut-pending, still-pending, cut-now, cut-before}
 

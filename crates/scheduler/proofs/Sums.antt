@@ -1,11 +1,11 @@
 -- Laws of sums over the numbers below n, and a search among them.
-use mathlib.Core.Path.{_≡_, refl, sym, subst}
+use mathlib.Core.Path.{_≡_, refl, subst}
 use mathlib.Core.Logic.{_⊎_, inl, inr, ⊎-elim}
 use Prim.Native.Nat.{ℕ, zero, suc, _+_, _≤_, _<_}
 use native.Mathlib.Nat.{not-suc-le-zero}
 use native.Mathlib.Numerals.{add-one}
 use native.Mathlib.Omega.{arith}
-use Rattle.std.proofs.shelf.Tests.{cases-lt, cases-eq}
+use Rattle.std.proofs.shelf.Tests.{cases-lt}
 use Rattle.demand.specs.Admission.{total}
 
 pub sum-same : (n : ℕ) (f g : ℕ → ℕ) → ((i : ℕ) → i < n → f i ≡ g i) → total n f ≡ total n g
@@ -15,10 +15,6 @@ sum-same (suc n) f g same = omega (arith, sum-same n f g (λ i l. same i (omega 
 pub sum-le : (n : ℕ) (f g : ℕ → ℕ) → ((i : ℕ) → i < n → f i ≤ g i) → total n f ≤ total n g
 sum-le zero f g le = omega arith
 sum-le (suc n) f g le = omega (arith, sum-le n f g (λ i l. le i (omega arith)), le n (omega arith))
-
-pub sum-zero : (n : ℕ) (f : ℕ → ℕ) → ((i : ℕ) → i < n → f i ≡ 0) → total n f ≡ 0
-sum-zero zero f none = refl
-sum-zero (suc n) f none = omega (arith, sum-zero n f (λ i l. none i (omega arith)), none n (omega arith))
 
 -- one of them is one more, and the others are the same
 pub sum-more : (n : ℕ) (f g : ℕ → ℕ) (m : ℕ) → m < n → g m ≡ f m + 1 → ((i : ℕ) → i < n → (i ≡ m → ⊥) → g i ≡ f i) → total n g ≡ total n f + 1
@@ -67,15 +63,3 @@ all-or-some P Q test (suc n) =
     more : ((i : ℕ) → i < n → P i) → P n → (i : ℕ) → i < suc n → P i
     more all here i l =
         ⊎-elim (λ (lt : i < n). all i lt) (λ (ge : n ≤ i). let e : n ≡ i = omega arith in subst P e here) (cases-lt i n)
-
-pub sum-none : (f : ℕ → ℕ) → total 0 f ≡ 0
-sum-none f = refl
-
-pub sum-next : (n : ℕ) (f : ℕ → ℕ) → total (n + 1) f ≡ total n f + f n
-sum-next n f = rw add-one
-
-pub sum-front : (n m : ℕ) (f : ℕ → ℕ) → m ≤ n → total m f ≤ total n f
-sum-front zero m f l = let e : m ≡ 0 = omega arith in rw e (omega arith)
-sum-front (suc n) m f l =
-    ⊎-elim (λ (lt : m < suc n). omega (arith, sum-front n m f (omega arith)))
-    (λ (ge : suc n ≤ m). let e : m ≡ suc n = omega arith in rw e (omega arith)) (cases-lt m (suc n))

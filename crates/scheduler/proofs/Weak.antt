@@ -1,11 +1,10 @@
 -- The rules that the two laws need: any refusal, any tie, any number of jobs.
-use mathlib.Core.Path.{_≡_}
-use mathlib.Core.List.{List, [], _∷_}
-use Prim.Native.Nat.{ℕ, _+_, _-_, _≤_, _<_}
+use mathlib.Core.List.{[], _∷_}
+use Prim.Native.Nat.{ℕ, _-_, _≤_, _<_}
 use Rattle.std.specs.declared.option.Option.{Option}
 use Rattle.std.specs.declared.option.Option.the-variants.{Some, None}
 use Rattle.demand.specs.Admission.{total}
-use Rattle.scheduler.specs.History.{Event, History, Job, clock, count, job, Open}
+use Rattle.scheduler.specs.History.{Event, History, job, Open}
 use Rattle.scheduler.specs.History.Event.{arrived, finished, ticked, refused}
 use Rattle.scheduler.specs.Windows.{Ready}
 

@@ -1,6 +1,6 @@
 -- Whether a job has a free unit is decided by finitely many windows.
 use mathlib.Core.Logic.{_⊎_, inl, inr, ⊎-elim}
-use Prim.Native.Nat.{ℕ, suc, _+_, _-_, _≤_, _<_}
+use Prim.Native.Nat.{ℕ, suc, _-_, _≤_, _<_}
 use native.Mathlib.Omega.{arith}
 use Rattle.std.proofs.shelf.Tests.{cases-lt}
 use Rattle.scheduler.specs.History.{Job, Lies}
@@ -23,9 +23,6 @@ module _ (bound : ℕ → ℕ → ℕ) (load-of : ℕ → ℕ → ℕ → ℕ) (
       ⊎-elim (λ (lt : e < suc end). all e lt d)
       (λ (ge : suc end ≤ e). omega (arith, past t e, all end (omega arith) due, grows (end - t) (e - t) (omega arith)))
       (cases-lt e (suc end))
-
-  pub free-from : ((t e : ℕ) → t ≤ j .arrival → j .due ≤ e → e ≤ end → Room bound load-of (j .component) t e) → Free bound load-of j
-  free-from all t e lies = beyond t (λ f l d. all t f (lies .0) d (omega arith)) e (lies .1)
 
   test : (t e : ℕ) → Roomy t e ⊎ Fills t e
   test t e =

@@ -2,7 +2,7 @@
 -- and how it ended, and the load of a component in a window are read from it alone.
 use mathlib.Core.Path.{_≡_}
 use mathlib.Core.Logic.{_⊎_}
-use mathlib.Core.Bool.{Bool, true, false, cond, _&&_}
+use mathlib.Core.Bool.{Bool, cond, _&&_}
 use mathlib.Core.List.{List, [], _∷_, _++_}
 use Prim.Native.Nat.{ℕ, zero, suc, _+_, _≤_, _<_}
 use lib.Dec.{eqb, leb, ltb}
@@ -11,6 +11,7 @@ use Rattle.std.specs.declared.option.Option.{Option}
 use Rattle.std.specs.declared.option.Option.the-variants.{Some, None}
 use Rattle.demand.specs.Admission.{total}
 
+-- arrive names a component and a deadline d, counted from the arrival; finish names a job
 pub data Call : Type 0 where
   arrive : (component d : ℕ) → Call
   finish : (job : ℕ) → Call
@@ -36,6 +37,7 @@ clock (finished n u ∷ h) = clock h
 clock (ticked ran held cuts ∷ h) = clock h + 1
 clock (refused c why ∷ h) = clock h
 
+-- an accepted arrival
 pub record Job : Type 0 where
   pub component : ℕ
   pub arrival : ℕ
@@ -71,6 +73,7 @@ units (finished m u ∷ h) n = units h n
 units (ticked ran held cuts ∷ h) n = units h n + gives ran n
 units (refused c why ∷ h) n = units h n
 
+-- how a job stands: open, finished, or cut at its deadline; a number that no job has yet counts as open
 pub data Fate : Type 0 where
   pending done cut : Fate
 

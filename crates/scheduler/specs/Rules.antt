@@ -2,7 +2,7 @@
 -- included.
 use mathlib.Core.Path.{_≡_}
 use mathlib.Core.Bool.{Bool, true, false, cond, not}
-use mathlib.Core.List.{List, [], _∷_}
+use mathlib.Core.List.{[], _∷_}
 use mathlib.Core.Logic.{_⊎_}
 use Prim.Native.Nat.{ℕ, _-_, _≤_, _<_}
 use lib.Dec.{eqb, leb}
@@ -12,7 +12,7 @@ use Rattle.std.specs.declared.option.Option.the-variants.{Some, None}
 use Rattle.demand.specs.declared.binder.Binder.{Ghosts}
 use Rattle.demand.specs.Admission.{admission}
 use Rattle.demand.specs.Fields.{from-to}
-use Rattle.scheduler.specs.History.{Call, Event, History, Job, Fate, clock, count, job, units, fate, Cuts, Counts, load}
+use Rattle.scheduler.specs.History.{Call, Event, History, Fate, clock, count, job, units, fate, Cuts, Counts, load}
 use Rattle.scheduler.specs.History.Call.{arrive, finish, tick}
 use Rattle.scheduler.specs.History.Event.{arrived, finished, ticked, refused}
 use Rattle.scheduler.specs.History.Fate.{pending, done, cut}

@@ -1,7 +1,7 @@
 -- Free units, in every window and in finitely many. `bound k l` is how many units the component k may run in a window of l ticks.
 use mathlib.Core.Path.{_≡_}
 use Prim.Native.Nat.{ℕ, _+_, _-_, _≤_, _<_}
-use Rattle.scheduler.specs.History.{History, Job, clock, count, job, Open, Live, Lies, load}
+use Rattle.scheduler.specs.History.{History, Job, count, job, Live, Lies, load}
 
 -- Over the loads in all windows, by component, start and end:
 module _ (bound : ℕ → ℕ → ℕ) (load-of : ℕ → ℕ → ℕ → ℕ) where
@@ -22,7 +22,7 @@ module _ (bound : ℕ → ℕ → ℕ) (load-of : ℕ → ℕ → ℕ → ℕ) w
   Spent j = (s : ℕ) × (e : ℕ) × Lies j s e × Full (j .component) s e
 
 module _ (bound : ℕ → ℕ → ℕ) (h : History) where
-  -- a tick may run the job n, or holds it back
+  -- of the jobs that a tick leaves open, one with a free unit may run and one without is held
   abbrev pub Ready : ℕ → Type 0
   Ready n = Live h n × Free bound (load h) (job h n)
 

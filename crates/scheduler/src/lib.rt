@@ -7,8 +7,9 @@ ghost use Rattle.scheduler.specs.Rules.{plan-of, admitted, AlwaysCertified, On
 use demand::Binder;
 use demand::admit;
 
-// Whether the binder is admitted. If it is, every history of calls whose answers follow the rules obeys both laws: no component
-// ever runs past its bound in any window, and a job is cut at its deadline only where its component has spent its bound.
+// Whether the binder is admitted. If it is, every history of calls whose answers follow the rules obeys both laws: in each window
+// the jobs of a component that lie in it have run at most its bound, and a job that is cut lies in a window in which its component
+// has spent its bound.
 pub fn certifies<B: Binder>(binder: &B) -> bool
     ensures verdict { λ r. ⌜ r ≡ admitted (plan-of B·Binder (now (binder .entry))) ⌝ }
     ensures certified { λ r. ⌜ (r ≡ true → AlwaysCertified (plan-of B·Binder (now (binder .entry)))) ⌝ }

@@ -1,7 +1,7 @@
 ghost use mathlib.Core.Path.{_≡_};
 ghost use Prim.Native.Nat.{_≤_};
 ghost use Rattle.demand.specs.Rows.{row-fields, before, in-order, row-judged, rows-judged};
-ghost use Rattle.demand.specs.Faults.{then, meaning, value-or};
+ghost use Rattle.demand.specs.Faults.{then, meaning};
 ghost use Rattle.demand.specs.Sheets.{sheet-rows};
 ghost use Rattle.std.specs.declared.result.Result.the-variants.{Ok, Err};
 ghost use Rattle.demand.specs.declared.fault.FileFault.{FileFault};

@@ -21,7 +21,7 @@ use crate::row_sheet::making::comes_before;
 use crate::task::MakeRefusal;
 use crate::task::Task;
 
-// The largest power of two that is at most x.
+// The largest of the powers of two from 1 to 4,096 that is at most x.
 fn round_down(x: u16) -> u16
     ensures { λ r. ⌜ r ≡ power-below 12 x ⌝ }
 {
@@ -36,7 +36,7 @@ fn round_down(x: u16) -> u16
     found
 }
 
-// The smallest power of two that is at least x.
+// The smallest of the powers of two from 1 to 4,096 that is at least x.
 fn round_up(x: u16) -> u16
     ensures { λ r. ⌜ r ≡ power-above 12 x ⌝ }
 {

@@ -1,7 +1,6 @@
-use mathlib.Core.Path.{_≡_, ap, sym, _∙_}
-use Prim.Native.Nat.{ℕ, _+_, _*_, _/_, _%_}
+use mathlib.Core.Path.{ap, sym, _∙_}
+use Prim.Native.Nat.{ℕ}
 use native.Mathlib.Omega.{arith}
-use Rattle.demand.specs.Sheets.{declarations}
 use Rattle.binder_file.specs.Boot.{boot-number}
 use Rattle.binder_file.proofs.Nearness.{read-went, parts-told}
 use Rattle.binder_file.proofs.boot.binder_verdict.Needs as need

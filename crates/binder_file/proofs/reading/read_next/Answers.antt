@@ -12,7 +12,7 @@ use Rattle.demand.specs.declared.fault.RecordStart.{RecordStart}
 use Rattle.demand.specs.Faults.{meaning}
 use Rattle.demand.specs.Sheets.{Declaration, declared, declarations}
 use Rattle.binder_file.specs.Format.{record-judged, records-from, next-start}
-use Rattle.demand.proofs.Faults.{then-ok, then-err}
+use Rattle.demand.proofs.Faults.{then-err}
 use Rattle.binder_file.proofs.Format.{rest-ended, rest-fails, rest-read}
 use Rattle.binder_file.proofs.reading.read_next.Needs as need
 

@@ -1,9 +1,7 @@
-use mathlib.Core.Path.{_≡_, ap, subst, sym, _∙_}
-use mathlib.Core.List.{map}
+use mathlib.Core.Path.{ap, _∙_}
 use Prim.Native.Nat.{ℕ, _+_, _*_}
 use native.Mathlib.Omega.{arith}
 use lib.ListN.{set, take}
-use Rattle.std.specs.Iters.{counting}
 use Rattle.std.proofs.shelf.Lists.{length-set}
 use Rattle.binder_file.specs.Format.{word-at}
 use Rattle.demand.proofs.Filling.{filled-more}

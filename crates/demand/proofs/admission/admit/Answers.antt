@@ -1,6 +1,4 @@
-use mathlib.Core.Path.{_≡_, sym, _∙_}
-use mathlib.Core.Logic.{_⊎_}
-use Prim.Native.Nat.{ℕ, _<_, _≤_}
+use mathlib.Core.Path.{sym, _∙_}
 use native.Mathlib.Omega.{arith}
 use Rattle.demand.specs.Admission.{demand}
 use Rattle.demand.proofs.Admitted.{exceeded-later, too-few-or-many, exceeds-at, gains-exceed, all-fit}

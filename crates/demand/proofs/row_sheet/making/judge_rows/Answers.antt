@@ -1,9 +1,8 @@
-use mathlib.Core.Path.{_≡_, refl, sym, _∙_}
+use mathlib.Core.Path.{sym, _∙_}
 use native.Mathlib.Omega.{arith}
 use Rattle.std.proofs.shelf.Results.{err-from-errBy}
 use Rattle.std.proofs.shelf.Lists.{at-drop-all}
-use Rattle.std.proofs.shelf.Tests.{cond-true, and-from, le-leb}
-use Rattle.demand.specs.Rows.{rows-from, rows-judged}
+use Rattle.demand.specs.Rows.{rows-from}
 use Rattle.demand.proofs.Faults.{then-ok, then-err}
 use Rattle.demand.proofs.Rows.{rows-from-more, rows-counted}
 use Rattle.demand.proofs.row_sheet.making.judge_rows.Needs as need

@@ -1,9 +1,7 @@
-use mathlib.Core.Path.{_≡_, sym, ap, _∙_}
+use mathlib.Core.Path.{sym, ap, _∙_}
 use mathlib.Core.Bool.{not}
-use Prim.Native.Nat.{ℕ}
 use native.Mathlib.Omega.{arith}
 use lib.ListN.{length, getD}
-use Rattle.std.specs.declared.option.Option.{Option}
 use Rattle.std.proofs.shelf.Tests.{not-from-true, not-from-false}
 use Rattle.demand.specs.declared.task.MakeRefusal.the-variants.{TaskOutOfRange}
 use Rattle.demand.specs.Tasks.{task-sound, no-task, refused-by}

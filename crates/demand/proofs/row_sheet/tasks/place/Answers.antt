@@ -1,16 +1,16 @@
 use borrow.Author.Needs.{needs}
 use mathlib.Core.Path.{_≡_, refl, ap, sym, subst, _∙_}
-use mathlib.Core.Bool.{Bool, cond, false}
-use mathlib.Core.List.{List, _++_}
+use mathlib.Core.Bool.{Bool, cond}
+use mathlib.Core.List.{List}
 use mathlib.Core.Logic.{⊎-elim}
-use Prim.Native.Nat.{ℕ, _+_, _<_, _≤_}
+use Prim.Native.Nat.{ℕ, _≤_}
 use native.Mathlib.Omega.{arith}
-use lib.ListN.{length, getD, take, drop, set}
-use Rattle.std.proofs.shelf.Lists.{length-set, length-take-le, length-append, length-drop, getD-set-same, getD-set-other, take-all, drop-all}
+use lib.ListN.{length, getD, set}
+use Rattle.std.proofs.shelf.Lists.{length-set, length-take-le, getD-set-same, getD-set-other}
 use Rattle.std.proofs.shelf.Tests.{cases-eq, cond-both}
 use Rattle.demand.specs.declared.row.Row.{Row}
 use Rattle.demand.specs.Rows.{before}
-use Rattle.demand.specs.Placing.{joined-copies, placed}
+use Rattle.demand.specs.Placing.{joined-copies}
 use Rattle.demand.specs.Tasks.{no-row}
 use Rattle.demand.proofs.Placed.{place-step, place-join, place-last, placed-last-length}
 use Rattle.demand.proofs.row_sheet.tasks.place.Needs as need

@@ -1,7 +1,5 @@
-use mathlib.Core.Path.{_≡_, _∙_}
-use Prim.Native.Nat.{ℕ, _+_}
+use mathlib.Core.Path.{_∙_}
 use native.Mathlib.Omega.{arith}
-use Rattle.demand.specs.Tasks.{power-below}
 use Rattle.demand.proofs.Rounding.{power-more, power-fits, below-more, below-same}
 use Rattle.demand.proofs.row_sheet.tasks.round_down.Needs as need
 use Rattle.demand.proofs.row_sheet.tasks.round_down.Needs.{then-power-x, else-power-x}

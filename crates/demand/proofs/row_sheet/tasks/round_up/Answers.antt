@@ -1,7 +1,5 @@
-use mathlib.Core.Path.{_≡_, _∙_}
-use Prim.Native.Nat.{ℕ, _+_}
+use mathlib.Core.Path.{_∙_}
 use native.Mathlib.Omega.{arith}
-use Rattle.demand.specs.Tasks.{power-above}
 use Rattle.demand.proofs.Rounding.{power-more, power-fits, above-more, above-same}
 use Rattle.demand.proofs.row_sheet.tasks.round_up.Needs as need
 use Rattle.demand.proofs.row_sheet.tasks.round_up.Needs.{then-x-power, else-x-power}

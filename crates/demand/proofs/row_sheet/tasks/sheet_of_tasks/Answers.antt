@@ -1,17 +1,16 @@
 use borrow.Author.Needs.{needs}
-use mathlib.Core.Path.{_≡_, refl, sym, ap, subst, _∙_}
-use mathlib.Core.Bool.{Bool, true, false}
+use mathlib.Core.Path.{_≡_, sym, ap, subst, _∙_}
+use mathlib.Core.Bool.{true, false}
 use mathlib.Core.List.{List, map}
 use Prim.Native.Nat.{ℕ, _+_, _-_, _<_, _≤_}
 use native.Mathlib.Omega.{arith}
 use lib.ListN.{length, getD, take}
 use Rattle.std.proofs.shelf.Elements.{all-getD}
-use Rattle.std.proofs.shelf.Lists.{length-map, getD-map, getD-take, length-take-le}
+use Rattle.std.proofs.shelf.Lists.{length-map, getD-map, getD-take}
 use Rattle.demand.specs.declared.row.Row.{Row}
 use Rattle.demand.specs.declared.task.MakeRefusal.the-variants.{NoRoom}
-use Rattle.demand.specs.Rows.{sound-rows}
-use Rattle.demand.specs.Placing.{placed, no-room}
-use Rattle.demand.specs.Tasks.{rounded, copies-of, no-row, no-task, crowded, refused-by, Grouped}
+use Rattle.demand.specs.Placing.{no-room}
+use Rattle.demand.specs.Tasks.{rounded, copies-of, no-row, no-task, crowded, refused-by}
 use Rattle.demand.proofs.Firsts.{first-here, first-later, first-none}
 use Rattle.demand.proofs.Rows.{row-ranges, ranges-from}
 use Rattle.demand.proofs.Tasked.{Filled, tasks-accepted, crowded-is, placed-few, filled-more, filled-sound}

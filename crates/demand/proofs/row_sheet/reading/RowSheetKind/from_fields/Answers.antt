@@ -4,7 +4,6 @@ use Rattle.demand.specs.Kinds.{rows-in}
 use mathlib.Core.Path.{_≡_, sym, ap, _∙_}
 use mathlib.Core.Logic.{⊎-elim, inl, inr}
 use native.Mathlib.Nat.{sub-zero}
-use native.Mathlib.Omega.{arith}
 use Rattle.std.specs.declared.result.Result.the-variants.{Err}
 use Rattle.demand.specs.declared.fault.Location.{Location}
 use Rattle.demand.specs.declared.fault.FileFault.the-variants.{WrongLength}

@@ -1,5 +1,5 @@
 use mathlib.Core.Path.{_≡_}
-use lib.ListN.{length, take}
+use lib.ListN.{take}
 use Rattle.std.specs.shelf.Lists.{joined}
 use Rattle.demand.specs.Kinds.{row-fields-of}
 use Rattle.demand.specs.Over.{over}
