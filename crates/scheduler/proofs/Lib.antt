@@ -1,3 +1,4 @@
+pub mod Answering
 pub mod Certificate
 pub mod Jobwise
 pub mod Loads

@@ -100,6 +100,10 @@ pub record Certified (bound : ℕ → ℕ → ℕ) (h : History) : Type 0 where
 abbrev pub AlwaysCertified : Plan → Type 0
 AlwaysCertified p = (h : History) → Follows p h → Certified (p .bound) h
 
+-- after every history each call has an answer that follows the rules
+abbrev pub AnAnswer : Plan → Type 0
+AnAnswer p = (h : History) (c : Call) → (e : Event) × (call-of e ≡ c) × Answers p e h
+
 -- two answers to the same call after the same history that both follow the rules are equal
 abbrev pub OneAnswer : Plan → Type 0
 OneAnswer p = (h : History) (e f : Event) → call-of e ≡ call-of f → Answers p e h → Answers p f h → e ≡ f

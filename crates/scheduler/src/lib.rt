@@ -3,7 +3,7 @@
 
 ghost use mathlib.Core.Bool.{true};
 ghost use mathlib.Core.Path.{_≡_};
-ghost use Rattle.scheduler.specs.Rules.{plan-of, admitted, AlwaysCertified, OneAnswer, DecidedAtJobs};
+ghost use Rattle.scheduler.specs.Rules.{plan-of, admitted, AlwaysCertified, AnAnswer, OneAnswer, DecidedAtJobs};
 use demand::Binder;
 use demand::admit;
 
@@ -13,6 +13,7 @@ use demand::admit;
 pub fn certifies<B: Binder>(binder: &B) -> bool
     ensures verdict { λ r. ⌜ r ≡ admitted (plan-of B·Binder (now (binder .entry))) ⌝ }
     ensures certified { λ r. ⌜ (r ≡ true → AlwaysCertified (plan-of B·Binder (now (binder .entry)))) ⌝ }
+    ensures an_answer { λ _. ⌜ AnAnswer (plan-of B·Binder (now (binder .entry))) ⌝ }
     ensures one_answer { λ _. ⌜ OneAnswer (plan-of B·Binder (now (binder .entry))) ⌝ }
     ensures decided_at_jobs { λ _. ⌜ DecidedAtJobs (plan-of B·Binder (now (binder .entry))) ⌝ }
 {
