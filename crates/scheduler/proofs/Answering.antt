@@ -13,7 +13,7 @@ use Rattle.scheduler.specs.History.Call.{arrive, finish, tick}
 use Rattle.scheduler.specs.History.Event.{arrived, finished, ticked, refused}
 use Rattle.scheduler.specs.History.Fate.{pending, done, cut}
 use Rattle.scheduler.specs.Windows.{Free, Ready, Held}
-use Rattle.scheduler.specs.Rules.{Plan, GoesBefore, RunsFirst, refusal-of, arrive-refusal, finish-refusal, tick-refusal, call-of, Answers}
+use Rattle.scheduler.specs.Rules.{Plan, GoesBefore, RunsFirst, refusal-of, call-of, Answers}
 use Rattle.scheduler.proofs.Loads.{horizon, due-before, load-past, done-pending, cut-pending}
 use Rattle.scheduler.proofs.Windows.{free-or-full}
 
