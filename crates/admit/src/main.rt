@@ -1,5 +1,7 @@
 // Prints whether the components of `binder.bin` may share the core, with a summary of their sheets.
 
+#![tactic(auto)]
+
 use report::admission_report;
 use std::fs::File;
 use std::io;

@@ -1,5 +1,7 @@
 // Runs the library on the cases that the reference made, and says how many agree with it and which do not.
 
+#![tactic(auto)]
+
 mod answers;
 mod cases;
 mod histories;

@@ -1,5 +1,7 @@
 // The binder file: reading its bytes into a binder, and writing a binder as bytes.
 
+#![tactic(auto)]
+
 mod boot;
 mod reading;
 mod record;

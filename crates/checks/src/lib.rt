@@ -1,5 +1,7 @@
 // Values that the definitions have to give, and tests by tables of cases.
 
+#![tactic(auto)]
+
 ghost use Rattle.std.specs.Prelude.{◌≡◌, length};
 ghost use Rattle.std.specs.List.{AllByRecursion as All};
 ghost use Rattle.checks.specs.Reference.{Agrees, reference_values};

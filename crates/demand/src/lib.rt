@@ -1,5 +1,7 @@
 // Components that share one core: binders, their laws, and the admission test over any of them.
 
+#![tactic(auto)]
+
 mod admission;
 mod binder;
 mod refusal;

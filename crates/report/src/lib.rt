@@ -1,5 +1,7 @@
 // What the program `admit` prints of a binder file.
 
+#![tactic(auto)]
+
 ghost use Rattle.std.specs.Prelude.{◌≡◌, ◌<◌, ◌≤◌, length, IfOk, string_bytes, codes};
 ghost use Rattle.binder_file.specs.Format.{decode};
 ghost use Rattle.sheet_binder.specs.Declarations.{declarations};

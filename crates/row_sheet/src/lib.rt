@@ -1,5 +1,7 @@
 // A sheet of rows: made from its fields, read and written, and asked for its bound.
 
+#![tactic(auto)]
+
 mod asking;
 mod bounds;
 mod making;

@@ -1,6 +1,8 @@
 // A policed earliest-deadline scheduler over any binder, whose calls promise that every history of calls and answers obeys two
 // laws.
 
+#![tactic(auto)]
+
 ghost use Rattle.std.specs.Prelude.{◌≡◌};
 ghost use Rattle.scheduler.specs.Rules.{plan_of, admitted, AlwaysCertified, AnAnswer, OneAnswer, DecidedAtJobs};
 

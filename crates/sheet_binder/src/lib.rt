@@ -1,5 +1,7 @@
 // A sheet of either kind, and a binder of up to eight of them.
 
+#![tactic(auto)]
+
 mod binder;
 mod sheet;
 

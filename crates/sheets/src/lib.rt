@@ -1,6 +1,8 @@
 // What a component can declare, as rows or as a line: the fields and their rules, the faults in them, and what every kind of
 // sheet has.
 
+#![tactic(auto)]
+
 mod fault;
 mod fields;
 mod kind;

@@ -1,5 +1,7 @@
 // Runs the calls on standard input over the components of `binder.bin`, and prints each answer.
 
+#![tactic(auto)]
+
 use std::fs::File;
 use std::io;
 use std::io::{ErrorKind, Read};

@@ -1,5 +1,7 @@
 // Sheets of rows made from lists of sporadic tasks.
 
+#![tactic(auto)]
+
 mod making;
 mod task;
 

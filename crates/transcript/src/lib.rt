@@ -1,5 +1,7 @@
 // What the program `sit` prints of a binder file and the calls on its standard input.
 
+#![tactic(auto)]
+
 ghost use Rattle.std.specs.Prelude.{◌≡◌, ℕ, ◌<◌, ◌≤◌, ◌⊎◌, List, length, IfOk, Ok, string_bytes, codes};
 ghost use Rattle.binder_file.specs.Format.{decode};
 ghost use Rattle.sheet_binder.specs.Declarations.{declarations};

@@ -10,7 +10,7 @@ returns g c =
     let e = c.verdict_numbers.ensures ∙ ap (λ (r : Result (Unit {0}) TestRefusal). verdict_numbers r) c.admit.ensures in
     record {
       verdict = e;
-      admitted-exactly-when-demand-fits = (
+      admitted_exactly_when_demand_fits = (
         (λ z. admitted_fits (g.B.Binder.count b) (g.B.Binder.bound b) (g.B.Binder.gain b) (g.met.B.Binder.repeats b) (admitted_numbers _ (sym e ∙ z))),
         (λ f. e ∙ ap (λ (r : Result (Unit {0}) TestRefusal). verdict_numbers r) (fits_admitted (g.B.Binder.count b) (g.B.Binder.bound b) (g.B.Binder.gain b) (g.met.B.Binder.repeats b) f)),
       );

@@ -16,7 +16,7 @@ returns-then-total-demand-length g c =
 pub loop-length-preserved : goal.loop-length-preserved
 loop-length-preserved g c =
     let b = c.args.binder.now in
-    c.loop-length.invariant ∙ exceeded_later (demand (g.B.Binder.count b) (g.B.Binder.bound b)) c.loop-length.length (omega arith) (omega (arith, c.total-demand.ensures))
+    c.loop-length.invariant ∙ exceeded_later (demand (g.B.Binder.count b) (g.B.Binder.bound b)) c.loop-length.length (omega arith) (omega (arith, c.total_demand.ensures))
 
 pub returns-then-total-gain-gt4096 : goal.returns-then-total-gain-gt4096
 returns-then-total-gain-gt4096 g c =
@@ -26,4 +26,4 @@ returns-then-total-gain-gt4096 g c =
 pub returns : goal.returns
 returns g c =
     let b = c.args.binder.now in
-    sym (all_fit (g.B.Binder.count b) (g.B.Binder.bound b) (g.B.Binder.gain b) c.loop-length.length (omega arith) (omega arith) c.loop-length.invariant (omega arith) (omega (arith, c.total-gain.ensures)))
+    sym (all_fit (g.B.Binder.count b) (g.B.Binder.bound b) (g.B.Binder.gain b) c.loop-length.length (omega arith) (omega arith) c.loop-length.invariant (omega arith) (omega (arith, c.total_gain.ensures)))
