@@ -10,11 +10,11 @@ pub returns : goal.returns
 returns g c =
     let b = c.args.binder.now in
     let p = plan_of g.B.Binder b in
-    let v = c.is-ok.ensures.value ∙ ap (λ (r : Result (Unit {0}) TestRefusal). is_ok r) c.admit.ensures in
+    let v = c.is_ok.ensures.value ∙ ap (λ (r : Result (Unit {0}) TestRefusal). is_ok r) c.admit.ensures in
     record {
       verdict = v;
       certified = certified p (g.met.B.Binder.climbs b) (g.met.B.Binder.repeats b);
       an_answer = an_answer p (g.met.B.Binder.climbs b);
       one_answer = answers_once p;
-      decided-at-jobs = λ h n l. (free_at_jobs p.bound h n (g.met.B.Binder.climbs b) l, at_jobs_free p.bound h n);
+      decided_at_jobs = λ h n l. (free_at_jobs p.bound h n (g.met.B.Binder.climbs b) l, at_jobs_free p.bound h n);
     }

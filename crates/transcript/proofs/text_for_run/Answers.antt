@@ -11,23 +11,23 @@ use Rattle.transcript.proofs.text_for_run.Goals as goal
 pub returns : goal.returns
 returns c =
     let input = c.args.input.now in
-    let events = vec_items c.in-ok-events.events in
-    let lines_so = c.deref-3.ensures ∙ c.in-ok-lines.ensures ∙ ap (flat_map event_line) c.deref-2.ensures.value in
-    let last_so = c.deref-4.ensures ∙ c.in-ok-last.ensures ∙ ap unreadable_line c.in-ok-script.ensures.unreadable in
-    let calls_so = c.deref.ensures.value ∙ c.in-ok-script.ensures.calls in
-    let printed : string_bytes c.push-str-2.new.self ≡ text_after events input =
+    let events = vec_items c.in_ok-events.events in
+    let lines_so = c.deref-3.ensures ∙ c.in_ok-lines.ensures ∙ ap (flat_map event_line) c.deref-2.ensures.value in
+    let last_so = c.deref-4.ensures ∙ c.in_ok-last.ensures ∙ ap unreadable_line c.in_ok-script.ensures.unreadable in
+    let calls_so = c.deref.ensures.value ∙ c.in_ok-script.ensures.calls in
+    let printed : string_bytes c.push_str-2.new.self ≡ text_after events input =
     three_parts (codes "admitted\n") (flat_map event_line events) (unreadable_line (unreadable_from 1 (lines input)))
-    (string_bytes c.in-ok-text.text) c.deref-3.result.now (string_bytes c.push-str.new.self) c.deref-4.result.now (string_bytes c.push-str-2.new.self)
-    c.in-ok-text.ensures.ok lines_so c.in-ok-push-str.ensures.bytes last_so c.in-ok-push-str-2.ensures.bytes in
+    (string_bytes c.in_ok-text.text) c.deref-3.result.now (string_bytes c.push_str.new.self) c.deref-4.result.now (string_bytes c.push_str-2.new.self)
+    c.in_ok-text.ensures.ok lines_so c.in_ok-push_str.ensures.bytes last_so c.in_ok-push_str-2.ensures.bytes in
     record {
       text = record {
         events = events;
-        each_call_answered = c.in-ok-events.ensures.each_call_answered ∙ calls_so;
-        by_the_rules = c.in-ok-events.ensures.by_the_rules;
+        each_call_answered = c.in_ok-events.ensures.each_call_answered ∙ calls_so;
+        by_the_rules = c.in_ok-events.ensures.by_the_rules;
         printed = printed;
       };
       no_other = λ other x.
           same_text (declarations c.args.binder) input _ other events x
-          (c.in-ok-events.ensures.no_other_answers (reverse x.events) (ap (map call_of) (reverse-reverse x.events) ∙ x.each_call_answered ∙ sym calls_so) x.by_the_rules)
+          (c.in_ok-events.ensures.no_other_answers (reverse x.events) (ap (map call_of) (reverse-reverse x.events) ∙ x.each_call_answered ∙ sym calls_so) x.by_the_rules)
           printed;
     }

@@ -23,34 +23,34 @@ loop-i-init c = (
 pub loop-i-preserved : goal.loop-i-preserved
 loop-i-preserved c =
     let e : 8 - c.loop-i.i ≡ (8 - (c.loop-i.i + 1)) + 1 = omega arith in
-    let n = c.in-ok-start.ensures.next in (
+    let n = c.in_ok-start.ensures.next in (
       c.loop-i.invariant.0
           ∙ ap (λ (m : ℕ). meaning (λ ds. declarations c.loop-i.binder ++ ds) (records_from m c.args.bytes.now c.loop-i.start)) e
-          ∙ c.in-ok-start.ensures.rest (8 - (c.loop-i.i + 1)),
+          ∙ c.in_ok-start.ensures.rest (8 - (c.loop-i.i + 1)),
       n.0,
       omega (arith, n.1, c.loop-i.invariant.2),
       omega (arith, n.2, c.loop-i.invariant.3),
     )
 
-pub returns-in-err-start : goal.returns-in-err-start
-returns-in-err-start c =
+pub returns-in_err-start : goal.returns-in_err-start
+returns-in_err-start c =
     let p = err_from_is_err_and c.from-residual.result c.from-residual.ensures.1 in
     let e : 8 - c.loop-i.i ≡ (8 - (c.loop-i.i + 1)) + 1 = omega arith in
     let d : decode c.args.bytes.now ≡ Err p.0 =
-    decode_some c.args.bytes.now (sym c.if-is-empty.ensures) ∙ c.loop-i.invariant.0
+    decode_some c.args.bytes.now (sym c.if-is_empty.ensures) ∙ c.loop-i.invariant.0
     ∙ ap (λ (m : ℕ). meaning (λ ds. declarations c.loop-i.binder ++ ds) (records_from m c.args.bytes.now c.loop-i.start)) e
-    ∙ c.in-err-start.ensures.rest (8 - (c.loop-i.i + 1))
+    ∙ c.in_err-start.ensures.rest (8 - (c.loop-i.i + 1))
     ∙ ap (λ (f : FileFault). Err f) (sym p.2) in
     ap (λ (r : Result SheetBinder FileFault). meaning declarations r) p.1 ∙ sym d
 
 pub returns-then-start-bytes : goal.returns-then-start-bytes
 returns-then-start-bytes c =
     ap (λ (at : Location). Err (RecordCount at)) c.at-then-start-bytes.ensures
-    ∙ sym (decode_some c.args.bytes.now (sym c.if-is-empty.ensures) ∙ c.loop-i.invariant.0
+    ∙ sym (decode_some c.args.bytes.now (sym c.if-is_empty.ensures) ∙ c.loop-i.invariant.0
     ∙ ap (λ (r : Result (List Declaration) FileFault). meaning (λ ds. declarations c.loop-i.binder ++ ds) r) (records_full c.args.bytes.now c.loop-i.start (8 - c.loop-i.i) (omega arith) (omega arith)))
 
 pub returns : goal.returns
 returns c =
-    sym (decode_some c.args.bytes.now (sym c.if-is-empty.ensures) ∙ c.loop-i.invariant.0
+    sym (decode_some c.args.bytes.now (sym c.if-is_empty.ensures) ∙ c.loop-i.invariant.0
     ∙ ap (λ (r : Result (List Declaration) FileFault). meaning (λ ds. declarations c.loop-i.binder ++ ds) r) (records_ended (8 - c.loop-i.i) c.args.bytes.now c.loop-i.start (omega arith))
     ∙ ap (λ (l : List Declaration). Ok l) (append-nil (declarations c.loop-i.binder)))

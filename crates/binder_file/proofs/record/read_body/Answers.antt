@@ -7,4 +7,4 @@ use Rattle.binder_file.proofs.record.read_body.Goals as goal
 
 pub returns-then-count-gt40 : goal.returns-then-count-gt40
 returns-then-count-gt40 g c =
-    ap (λ (at : Location). Err (WrongLength at)) c.at-then-count-gt40.ensures ∙ sym (body_long g.S.SheetKind.judged c.args.bytes.now c.args.start g.met.S.SheetKind.short (ap whole_fields (sym c.word-length.ensures) ∙ sym c.if-not-has-whole-fields.ensures) (omega (arith, c.word-length.ensures)))
+    ap (λ (at : Location). Err (WrongLength at)) c.at-then-count-gt40.ensures ∙ sym (body_long g.S.SheetKind.judged c.args.bytes.now c.args.start g.met.S.SheetKind.short (ap whole_fields (sym c.word-length.ensures) ∙ sym c.if-not-has_whole_fields.ensures) (omega (arith, c.word-length.ensures)))

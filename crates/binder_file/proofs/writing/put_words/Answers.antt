@@ -12,7 +12,7 @@ loop-i-preserved c first old e n m =
     let ws = c.args.words.now in
     let done = flat_map word_bytes (take c.loop-i.i ws) in
     let len : length (first ++ done) ≡ c.args.at + 2 * c.loop-i.i = omega (arith, length-append first done, length_words (take c.loop-i.i ws), length-take-le c.loop-i.i ws (omega arith)) in
-    c.put-word.ensures (first ++ done) old (c.loop-i.invariant first old e n m) (sym len) (omega (arith, m))
+    c.put_word.ensures (first ++ done) old (c.loop-i.invariant first old e n m) (sym len) (omega (arith, m))
     ∙ ap (λ (l : List ℕ). over l old) (append_assoc first done _ ∙ ap (λ (l : List ℕ). first ++ l) (sym (joined_take_more word_bytes ws c.loop-i.i 0 (omega arith))))
 
 pub returns : goal.returns

@@ -13,7 +13,7 @@ loop-sheet-preserved c =
     let s = c.sheet-item.result in
     let m = ap (λ (l : List ℕ). length l) (encode_more ss c.loop-sheet.sheet-index s (omega arith) c.sheet-item.is) in
     let n = length-append (encode (map declared (take c.loop-sheet.sheet-index ss))) (record_bytes (declared s)) in
-    (omega (arith, m, n, c.loop-sheet.invariant.0, c.size-of-sheet-size.ensures.size), omega (arith, c.loop-sheet.invariant.1, c.size-of-sheet-size.ensures.few))
+    (omega (arith, m, n, c.loop-sheet.invariant.0, c.size_of_sheet-size.ensures.size), omega (arith, c.loop-sheet.invariant.1, c.size_of_sheet-size.ensures.few))
 
 pub returns : goal.returns
 returns c = c.loop-sheet.invariant.0 ∙ ap (λ (l : List Sheet). length (encode (map declared l))) (take_all c.loop-sheet.sheet-index c.args.sheets.now (omega arith))

@@ -6,4 +6,4 @@ use Rattle.binder_file.proofs.writing.size_of_record.Goals as goal
 pub returns : goal.returns
 returns g c =
     let n = length_words (record_words (g.S.SheetKind.declares c.args.sheet.now)) in
-    record { size = omega (arith, n, c.field-count.ensures); few = omega (arith, c.field-count.ensures, g.met.S.SheetKind.slots c.args.sheet.now) }
+    record { size = omega (arith, n, c.field_count.ensures); few = omega (arith, c.field_count.ensures, g.met.S.SheetKind.slots c.args.sheet.now) }

@@ -7,7 +7,7 @@ use Rattle.binder_file.proofs.writing.write_sheet.Goals as goal
 
 pub returns-in-Line : goal.returns-in-Line
 returns-in-Line c =
-    let w = c.write-record-in-Line.ensures in
+    let w = c.write_record-in-Line.ensures in
     let e = sym c.in-Line.is in
     record {
       end = w.end ∙ ap (λ (s : Sheet). c.args.at + length (record_bytes (declared s))) e;

@@ -8,8 +8,8 @@ use Rattle.binder_file.specs.Writing.{encode}
 use Rattle.binder_file.proofs.Encoding.{encode_more, encode_front}
 use Rattle.binder_file.proofs.writing.write_sheets.Goals as goal
 
-pub write-sheet-at-requires : goal.write-sheet-at-requires
-write-sheet-at-requires c =
+pub write_sheet-at-requires : goal.write_sheet-at-requires
+write_sheet-at-requires c =
     let ss = c.args.sheets.now in
     let s = c.sheet-item.result in
     let m = ap (λ (l : List ℕ). length l) (encode_more ss c.loop-sheet.sheet-index s (omega arith) c.sheet-item.is) in
@@ -24,8 +24,8 @@ loop-sheet-preserved c =
     let e = encode_more ss c.loop-sheet.sheet-index s (omega arith) c.sheet-item.is in
     let m = ap (λ (l : List ℕ). length l) e in
     let n = length-append done (record_bytes (declared s)) in (
-      omega (arith, m, n, c.loop-sheet.invariant.0, c.write-sheet-at.ensures.end),
-      c.write-sheet-at.ensures.bytes done c.args.buffer.now c.loop-sheet.invariant.1 c.loop-sheet.invariant.0 (omega arith)
+      omega (arith, m, n, c.loop-sheet.invariant.0, c.write_sheet-at.ensures.end),
+      c.write_sheet-at.ensures.bytes done c.args.buffer.now c.loop-sheet.invariant.1 c.loop-sheet.invariant.0 (omega arith)
           ∙ ap (λ (l : List ℕ). over l c.args.buffer.now) (sym e),
     )
 

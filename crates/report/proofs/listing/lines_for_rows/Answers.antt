@@ -10,9 +10,9 @@ pub loop-row-preserved : goal.loop-row-preserved
 loop-row-preserved c =
     let m = joined_take_more row_line c.args.rows.now c.loop-row.row-index (record { period = 0; deadline = 0; budget = 0; copies = 0 }) (omega arith) in
     let i = c.loop-row.invariant in
-    let b = c.in-ok-push-str.ensures.bytes in
+    let b = c.in_ok-push_str.ensures.bytes in
     let d = c.deref.ensures in
-    let r = c.in-ok-line.ensures in
+    let r = c.in_ok-line.ensures in
     cc
 
 pub returns : goal.returns

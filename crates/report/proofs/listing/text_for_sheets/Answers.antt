@@ -6,8 +6,8 @@ use Rattle.report.proofs.listing.text_for_sheets.Goals as goal
 
 pub loop-sheet-preserved : goal.loop-sheet-preserved
 loop-sheet-preserved c =
-    let b = c.in-ok-push-str.ensures.bytes in
-    let lines = c.deref.ensures ∙ c.in-ok-lines.ensures in
+    let b = c.in_ok-push_str.ensures.bytes in
+    let lines = c.deref.ensures ∙ c.in_ok-lines.ensures in
     let here = c.sheet-item.is ∙ ap (λ (k : ℕ). get_or c.args.sheets.now k c.sheet-item.result) (sym c.loop-sheet.invariant.0) in
     let m = sheets_more c.args.sheets.now c.loop-sheet.index c.sheet-item.result (string_bytes c.loop-sheet.text) c.deref.result.now (omega arith) here lines in (
       omega arith,

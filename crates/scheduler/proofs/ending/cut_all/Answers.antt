@@ -6,7 +6,7 @@ use Rattle.scheduler.specs.Table.{at, empty_entry}
 use Rattle.scheduler.specs.Steps.{is_due, cut_at, DueIn}
 use Rattle.scheduler.proofs.Chosen.{counts_here, counts_past}
 use Rattle.scheduler.proofs.ending.cut_all.Goals as goal
-use Rattle.scheduler.proofs.ending.cut_all.Goals.{then-cut-if-due, else-cut-if-due}
+use Rattle.scheduler.proofs.ending.cut_all.Goals.{then-cut_if_due, else-cut_if_due}
 
 pub loop-n-preserved : goal.loop-n-preserved
 loop-n-preserved c =
@@ -15,26 +15,26 @@ loop-n-preserved c =
     let old = c.args.jobs.now in
     let now = c.args.clock in
     let inv = c.loop-n.invariant in
-    let job = c.cut-if-due.new.job in
+    let job = c.cut_if_due.new.job in
     let here : at js n ≡ at old n = inv.2 n (omega arith) in
     let room : n < length js = omega (arith, c.loop-n.auto.jobs, c.loop-n-test.true) in
-    let cut_here : at (set js n job) n ≡ cut_at now (at old n) = get_or-set_same js n job empty_entry room ∙ c.cut-if-due.ensures.after ∙ ap (cut_at now) here in
-    let due_here : c.cut-if-due.result ≡ is_due now (at old n) = c.cut-if-due.ensures.answer ∙ ap (is_due now) here in
+    let cut_here : at (set js n job) n ≡ cut_at now (at old n) = get_or-set_same js n job empty_entry room ∙ c.cut_if_due.ensures.after ∙ ap (cut_at now) here in
+    let due_here : c.cut_if_due.result ≡ is_due now (at old n) = c.cut_if_due.ensures.answer ∙ ap (is_due now) here in
     let before : (m : ℕ) → m < n + 1 → at (set js n job) m ≡ cut_at now (at old m) =
     below_more (λ m. at (set js n job) m ≡ cut_at now (at old m)) n (λ m l. get_or-set_other js n m job empty_entry (omega arith) ∙ inv.1 m l) cut_here in
     let after : (m : ℕ) → n + 1 ≤ m → at (set js n job) m ≡ at old m = λ m l. get_or-set_other js n m job empty_entry (omega arith) ∙ inv.2 m (omega arith) in
-    elim c.if-cut-if-due.branch [
-      | then-cut-if-due w ↦ (
+    elim c.if-cut_if_due.branch [
+      | then-cut_if_due w ↦ (
         omega (arith, inv.0, w.cut-is),
         before,
         after,
-        subst (Counts (DueIn now old) (n + 1)) (sym w.cut-is) (counts_here (DueIn now old) n c.loop-n.cut inv.3 (sym due_here ∙ w.if-cut-if-due.true)),
+        subst (Counts (DueIn now old) (n + 1)) (sym w.cut-is) (counts_here (DueIn now old) n c.loop-n.cut inv.3 (sym due_here ∙ w.if-cut_if_due.true)),
       )
-      | else-cut-if-due w ↦ (
+      | else-cut_if_due w ↦ (
         omega (arith, inv.0, w.cut-is),
         before,
         after,
-        subst (Counts (DueIn now old) (n + 1)) (sym w.cut-is) (counts_past (DueIn now old) n c.loop-n.cut inv.3 (both_ways _ (sym due_here ∙ w.if-cut-if-due.false))),
+        subst (Counts (DueIn now old) (n + 1)) (sym w.cut-is) (counts_past (DueIn now old) n c.loop-n.cut inv.3 (both_ways _ (sym due_here ∙ w.if-cut_if_due.false))),
       )
     ]
 

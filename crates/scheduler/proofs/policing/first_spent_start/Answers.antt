@@ -19,7 +19,7 @@ loop-i-preserved-then-bound-units g c =
     let e = c.args.end in
     let i = c.loop-i.i in
     let pos : 0 < i = omega arith in
-    let t : due_by k e (at js (i - 1)) ≡ true = sym c.is-due-by.ensures ∙ c.if-is-due-by.true in
+    let t : due_by k e (at js (i - 1)) ≡ true = sym c.is_due_by.ensures ∙ c.if-is_due_by.true in
     let more = back_counted js k e i pos t in
     let spent : SpentFrom (g.B.Binder.bound c.args.binder.now) js k e (i - 1) = (omega (arith, c.loop-i.auto.i), t, omega (arith, c.loop-i.invariant.0, more, c.bound.ensures, c.if-bound-units.true)) in
     (omega (arith, c.loop-i.invariant.0, more), omega (arith, c.loop-i.invariant.1), least_found _ (i - 1) spent)
@@ -31,7 +31,7 @@ loop-i-preserved-else-bound-units g c =
     let e = c.args.end in
     let i = c.loop-i.i in
     let pos : 0 < i = omega arith in
-    let t : due_by k e (at js (i - 1)) ≡ true = sym c.is-due-by.ensures ∙ c.if-is-due-by.true in
+    let t : due_by k e (at js (i - 1)) ≡ true = sym c.is_due_by.ensures ∙ c.if-is_due_by.true in
     let more = back_counted js k e i pos t in (
       omega (arith, c.loop-i.invariant.0, more),
       omega (arith, c.loop-i.invariant.1),
@@ -45,7 +45,7 @@ loop-i-preserved g c =
     let e = c.args.end in
     let i = c.loop-i.i in
     let pos : 0 < i = omega arith in
-    let f : due_by k e (at js (i - 1)) ≡ false = sym c.is-due-by.ensures ∙ c.if-is-due-by.false in
+    let f : due_by k e (at js (i - 1)) ≡ false = sym c.is_due_by.ensures ∙ c.if-is_due_by.false in
     let same = back_passed js k e i pos f in (
       omega (arith, c.loop-i.invariant.0, same),
       omega (arith, c.loop-i.invariant.1),

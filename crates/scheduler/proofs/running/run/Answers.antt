@@ -15,19 +15,19 @@ loop-call-preserved g c =
     let event = c.perform-event.result in
     let s = c.perform-event.new.self in
     let i = c.loop-call.call-index in
-    let pushed : vec_items c.push.new.self ≡ old ++ (event ∷ []) = c.in-ok-push.ensures.items in (
-      c.perform-event.ensures.same-binder.binder_kept ∙ c.loop-call.invariant.0,
+    let pushed : vec_items c.push.new.self ≡ old ++ (event ∷ []) = c.in_ok-push.ensures.items in (
+      c.perform-event.ensures.same_binder.binder_kept ∙ c.loop-call.invariant.0,
       subst (Records g.B.Binder s) (sym (ap reverse pushed ∙ reverse-append old (event ∷ []))) (c.perform-event.ensures.recorded (reverse old) c.loop-call.invariant.1),
       ap (map call_of) pushed ∙ map_push call_of old event
           ∙ ap (λ (xs : List Call). xs ++ (call_of event ∷ [])) c.loop-call.invariant.2
-          ∙ ap (λ (x : Call). take i calls ++ (x ∷ [])) c.perform-event.ensures.answers-the-call
+          ∙ ap (λ (x : Call). take i calls ++ (x ∷ [])) c.perform-event.ensures.answers_the_call
           ∙ sym (take_more calls i (Arrive 0 0) c.loop-call-test.true),
     )
 
 pub returns : goal.returns
 returns g c =
     let events = vec_items c.loop-call.events in
-    let made_of = c.loop-call.invariant.0 ∙ c.new-scheduler.ensures.same-binder in
+    let made_of = c.loop-call.invariant.0 ∙ c.new-scheduler.ensures.same_binder in
     let x = c.args.binder in
     let p = plan_of g.B.Binder x in
     let climbs = g.met.B.Binder.climbs x in

@@ -14,27 +14,27 @@ small_copies b r s x e p q = subst (λ (y : Row). y.copies ≤ 16) (sym e) (cond
 pub loop-i-init : goal.loop-i-init
 loop-i-init c = let n : length c.args.rows.now ≡ 8 = search rules in (n, search rules, search rules, c.requires.1)
 
-pub returns-then-are-alike : goal.returns-then-are-alike
-returns-then-are-alike c =
+pub returns-then-are_alike : goal.returns-then-are_alike
+returns-then-are_alike c =
     let v = c.loop-i.invariant in
-    let e = v.1 ∙ place_join c.loop-i.rows c.loop-i.i c.args.len no_row (omega arith) (omega (arith, v.0)) c.loop-i.carried _ refl (sym c.if-are-alike.ensures) in
+    let e = v.1 ∙ place_join c.loop-i.rows c.loop-i.i c.args.len no_row (omega arith) (omega (arith, v.0)) c.loop-i.carried _ refl (sym c.if-are_alike.ensures) in
     let n = ap (λ (l : List Row). length l) e in
     (sym e, omega (arith, n, length-take-le c.args.len (set c.loop-i.rows c.loop-i.i (joined_copies (get_or c.loop-i.rows c.loop-i.i no_row) c.loop-i.carried)) (omega (arith, length-set c.loop-i.rows c.loop-i.i (joined_copies (get_or c.loop-i.rows c.loop-i.i no_row) c.loop-i.carried), v.0))))
 
 pub loop-i-preserved : goal.loop-i-preserved
 loop-i-preserved c =
     let v = c.loop-i.invariant in
-    let s = place_step c.loop-i.rows c.loop-i.i c.args.len no_row (omega arith) (omega (arith, v.0)) c.loop-i.carried _ _ c.in-order.ensures.0 c.in-order.ensures.1 (sym c.if-are-alike.ensures) in (
+    let s = place_step c.loop-i.rows c.loop-i.i c.args.len no_row (omega arith) (omega (arith, v.0)) c.loop-i.carried _ _ c.in_order.ensures.0 c.in_order.ensures.1 (sym c.if-are_alike.ensures) in (
       length-set c.loop-i.rows c.loop-i.i _ ∙ v.0,
       v.1 ∙ s,
-      small_copies (before c.loop-i.carried (get_or c.loop-i.rows c.loop-i.i no_row)) _ _ _ c.in-order.ensures.1 (v.3 c.loop-i.i (omega arith)) v.2,
+      small_copies (before c.loop-i.carried (get_or c.loop-i.rows c.loop-i.i no_row)) _ _ _ c.in_order.ensures.1 (v.3 c.loop-i.i (omega arith)) v.2,
       λ k h. ⊎_elim
           (λ (e : k ≡ c.loop-i.i).
-          subst (λ (n : ℕ). (get_or (set c.loop-i.rows c.loop-i.i c.in-order.result.0) n no_row).copies ≤ 16) (sym e)
-          (subst (λ (x : Row). x.copies ≤ 16) (sym (get_or-set_same c.loop-i.rows c.loop-i.i c.in-order.result.0 no_row (omega (arith, v.0))))
-          (small_copies (before c.loop-i.carried (get_or c.loop-i.rows c.loop-i.i no_row)) _ _ _ c.in-order.ensures.0 v.2 (v.3 c.loop-i.i (omega arith)))))
+          subst (λ (n : ℕ). (get_or (set c.loop-i.rows c.loop-i.i c.in_order.result.0) n no_row).copies ≤ 16) (sym e)
+          (subst (λ (x : Row). x.copies ≤ 16) (sym (get_or-set_same c.loop-i.rows c.loop-i.i c.in_order.result.0 no_row (omega (arith, v.0))))
+          (small_copies (before c.loop-i.carried (get_or c.loop-i.rows c.loop-i.i no_row)) _ _ _ c.in_order.ensures.0 v.2 (v.3 c.loop-i.i (omega arith)))))
           (λ (e : k ≡ c.loop-i.i → ⊥).
-          subst (λ (x : Row). x.copies ≤ 16) (sym (get_or-set_other c.loop-i.rows c.loop-i.i k c.in-order.result.0 no_row e)) (v.3 k h))
+          subst (λ (x : Row). x.copies ≤ 16) (sym (get_or-set_other c.loop-i.rows c.loop-i.i k c.in_order.result.0 no_row e)) (v.3 k h))
           (cases_eq k c.loop-i.i),
     )
 

@@ -12,17 +12,17 @@ use Rattle.sheets.proofs.Rows.{row_ranges, ranges_from}
 use Rattle.tasks.proofs.Tasked.{Filled, tasks_accepted, crowded_is, placed_few, filled_more, filled_sound}
 use Rattle.tasks.proofs.making.sheet_of_tasks.Goals as goal
 
-pub returns-then-is-crowded : goal.returns-then-is-crowded
-returns-then-is-crowded c =
+pub returns-then-is_crowded : goal.returns-then-is_crowded
+returns-then-is_crowded c =
     let ts = c.args.tasks.now in
     let ks = map rounded ts in
     let v = c.loop-i.invariant in
     let i = c.loop-i.i in
-    let is = get_or-map rounded ts i no_task no_row (omega arith) ∙ sym c.row-of-row.ensures in
+    let is = get_or-map rounded ts i no_task no_row (omega arith) ∙ sym c.row_of-row.ensures in
     let z : c.loop-i.len - 0 ≡ c.loop-i.len = omega arith in
     let t : crowded ks i ≡ true =
-    crowded_is ks i (take c.loop-i.len c.loop-i.rows) c.row-of-row.result v.2 (omega (arith, length-map ts rounded)) is
-    ∙ ap (λ (n : ℕ). no_room (copies_of c.row-of-row.result (take n c.loop-i.rows)) (length (take n c.loop-i.rows))) (sym z) ∙ sym c.if-is-crowded.ensures in
+    crowded_is ks i (take c.loop-i.len c.loop-i.rows) c.row_of-row.result v.2 (omega (arith, length-map ts rounded)) is
+    ∙ ap (λ (n : ℕ). no_room (copies_of c.row_of-row.result (take n c.loop-i.rows)) (length (take n c.loop-i.rows))) (sym z) ∙ sym c.if-is_crowded.ensures in
     record { answer = sym (ap (refused_by NoRoom) (v.3 ∙ first_here (crowded ks) i (length ts) (omega arith) t)); grouped = tt }
 
 pub place-len-requires : goal.place-len-requires
@@ -31,14 +31,14 @@ place-len-requires c =
     let v = c.loop-i.invariant in
     let i = c.loop-i.i in
     let a = tasks_accepted ts c.requires in
-    let is = get_or-map rounded ts i no_task no_row (omega arith) ∙ sym c.row-of-row.ensures in
+    let is = get_or-map rounded ts i no_task no_row (omega arith) ∙ sym c.row_of-row.ensures in
     let z : c.loop-i.len - 0 ≡ c.loop-i.len = omega arith in
-    let f : no_room (copies_of c.row-of-row.result (take c.loop-i.len c.loop-i.rows)) (length (take c.loop-i.len c.loop-i.rows)) ≡ false =
-    ap (λ (n : ℕ). no_room (copies_of c.row-of-row.result (take n c.loop-i.rows)) (length (take n c.loop-i.rows))) (sym z) ∙ sym c.if-is-crowded.ensures in
-    let one : c.row-of-row.result.copies ≡ 1 = ap (λ (r : Row). r.copies) c.row-of-row.ensures in
-    let ranged = subst (λ (r : Row). row_ranges r ≡ true) (sym c.row-of-row.ensures) (a.ranged i (omega arith)) in (
+    let f : no_room (copies_of c.row_of-row.result (take c.loop-i.len c.loop-i.rows)) (length (take c.loop-i.len c.loop-i.rows)) ≡ false =
+    ap (λ (n : ℕ). no_room (copies_of c.row_of-row.result (take n c.loop-i.rows)) (length (take n c.loop-i.rows))) (sym z) ∙ sym c.if-is_crowded.ensures in
+    let one : c.row_of-row.result.copies ≡ 1 = ap (λ (r : Row). r.copies) c.row_of-row.ensures in
+    let ranged = subst (λ (r : Row). row_ranges r ≡ true) (sym c.row_of-row.ensures) (a.ranged i (omega arith)) in (
       (
-        placed_few (map rounded ts) i (take c.loop-i.len c.loop-i.rows) c.row-of-row.result v.2 (omega (arith, length-map ts rounded)) is f one ranged,
+        placed_few (map rounded ts) i (take c.loop-i.len c.loop-i.rows) c.row_of-row.result v.2 (omega (arith, length-map ts rounded)) is f one ranged,
         (omega (arith, v.1, v.2.few), omega arith),
       ),
       λ k h.
@@ -54,19 +54,19 @@ loop-i-preserved c =
     let i = c.loop-i.i in
     let rs = take c.loop-i.len c.loop-i.rows in
     let a = tasks_accepted ts c.requires in
-    let is = get_or-map rounded ts i no_task no_row (omega arith) ∙ sym c.row-of-row.ensures in
+    let is = get_or-map rounded ts i no_task no_row (omega arith) ∙ sym c.row_of-row.ensures in
     let here : i < length ks = omega (arith, length-map ts rounded) in
     let z : c.loop-i.len - 0 ≡ c.loop-i.len = omega arith in
-    let f : no_room (copies_of c.row-of-row.result rs) (length rs) ≡ false =
-    ap (λ (n : ℕ). no_room (copies_of c.row-of-row.result (take n c.loop-i.rows)) (length (take n c.loop-i.rows))) (sym z) ∙ sym c.if-is-crowded.ensures in
-    let one : c.row-of-row.result.copies ≡ 1 = ap (λ (r : Row). r.copies) c.row-of-row.ensures in
-    let ranged = subst (λ (r : Row). row_ranges r ≡ true) (sym c.row-of-row.ensures) (a.ranged i (omega arith)) in
+    let f : no_room (copies_of c.row_of-row.result rs) (length rs) ≡ false =
+    ap (λ (n : ℕ). no_room (copies_of c.row_of-row.result (take n c.loop-i.rows)) (length (take n c.loop-i.rows))) (sym z) ∙ sym c.if-is_crowded.ensures in
+    let one : c.row_of-row.result.copies ≡ 1 = ap (λ (r : Row). r.copies) c.row_of-row.ensures in
+    let ranged = subst (λ (r : Row). row_ranges r ≡ true) (sym c.row_of-row.ensures) (a.ranged i (omega arith)) in
     let n : length c.place-len.new.rows ≡ 8 = search rules in
     let e = c.place-len.ensures.0 in (
       n,
       ap (λ (l : List Row). length l) e ∙ sym c.place-len.ensures.1,
-      subst (λ (l : List Row). Filled ks (i + 1) l) (sym e) (filled_more ks i rs c.row-of-row.result v.2 here is f one ranged),
-      v.3 ∙ first_later (crowded ks) i (length ts) (omega arith) (crowded_is ks i rs c.row-of-row.result v.2 here is ∙ f),
+      subst (λ (l : List Row). Filled ks (i + 1) l) (sym e) (filled_more ks i rs c.row_of-row.result v.2 here is f one ranged),
+      v.3 ∙ first_later (crowded ks) i (length ts) (omega arith) (crowded_is ks i rs c.row_of-row.result v.2 here is ∙ f),
     )
 
 pub unwrap-requires : goal.unwrap-requires

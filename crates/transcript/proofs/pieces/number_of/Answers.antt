@@ -17,13 +17,13 @@ returns-then-digit-lt48 c =
       | then-digit-lt48-via-then-digit-lt48 w ↦ and_left _ _ (lt-leb 48 b w.if-digit-lt48.true)
       | then-digit-lt48-via-else-digit-lt48+then-digit-gt57 w ↦ and_right _ _ (lt-leb b 57 w.if-digit-gt57.true)
     ] in
-    sym (digits_few bs some c.if-digits-gt-MOST-DIGITS.false ∙ c.loop-digit.invariant.0 ∙ digits_broken c.loop-digit.value bs i c.loop-digit-test.true wrong)
+    sym (digits_few bs some c.if-digits-gt-MOST_DIGITS.false ∙ c.loop-digit.invariant.0 ∙ digits_broken c.loop-digit.value bs i c.loop-digit-test.true wrong)
 
-pub overflow-mul-value : goal.overflow-mul-value
-overflow-mul-value c = let n = nine_digits c.loop-digit.value c.loop-digit.digit-index c.loop-digit.invariant.1 (omega arith) in omega arith
+pub overflow_mul-value : goal.overflow_mul-value
+overflow_mul-value c = let n = nine_digits c.loop-digit.value c.loop-digit.digit-index c.loop-digit.invariant.1 (omega arith) in omega arith
 
-pub overflow-add-value : goal.overflow-add-value
-overflow-add-value c = let n = nine_digits c.loop-digit.value c.loop-digit.digit-index c.loop-digit.invariant.1 (omega arith) in omega arith
+pub overflow_add-value : goal.overflow_add-value
+overflow_add-value c = let n = nine_digits c.loop-digit.value c.loop-digit.digit-index c.loop-digit.invariant.1 (omega arith) in omega arith
 
 pub loop-digit-preserved : goal.loop-digit-preserved
 loop-digit-preserved c =
@@ -37,5 +37,5 @@ pub returns : goal.returns
 returns c =
     let bs = c.args.digits.now in
     let n = c.loop-digit.value in
-    let some : 1 ≤ length bs = let ne = eqb-false (length bs) 0 (sym c.if-is-empty.ensures) in omega arith in
-    sym (digits_few bs some c.if-digits-gt-MOST-DIGITS.false ∙ c.loop-digit.invariant.0 ∙ at_drop_all (digits_behind n) bs c.loop-digit.digit-index c.loop-digit-test.false)
+    let some : 1 ≤ length bs = let ne = eqb-false (length bs) 0 (sym c.if-is_empty.ensures) in omega arith in
+    sym (digits_few bs some c.if-digits-gt-MOST_DIGITS.false ∙ c.loop-digit.invariant.0 ∙ at_drop_all (digits_behind n) bs c.loop-digit.digit-index c.loop-digit-test.false)

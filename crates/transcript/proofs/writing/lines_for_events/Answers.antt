@@ -11,9 +11,9 @@ pub loop-event-preserved : goal.loop-event-preserved
 loop-event-preserved c =
     let m = joined_take_more event_line c.args.events.now c.loop-event.event-index (Arrived 0 0 0) (omega arith) in
     let i = c.loop-event.invariant in
-    let b = c.in-ok-push-str.ensures.bytes in
+    let b = c.in_ok-push_str.ensures.bytes in
     let d = c.deref.ensures in
-    let r = c.in-ok-line.ensures in
+    let r = c.in_ok-line.ensures in
     cc
 
 pub returns : goal.returns

@@ -14,5 +14,5 @@ returns-then-fields-ne0 c =
 pub returns : goal.returns
 returns c =
     let n = length c.args.fields.now / 4 in
-    let e : take (n - 0) c.rows-of-held.result ≡ rows_in c.args.fields.now = rw sub-zero c.rows-of-held.ensures in
-    rows_read sheet_rows (take (n - 0) c.rows-of-held.result) c.args.fields.now c.args.start c.sheet-of-rows.result c.sheet-of-rows.ensures e c.if-fields-ne0.false
+    let e : take (n - 0) c.rows_of-held.result ≡ rows_in c.args.fields.now = rw sub-zero c.rows_of-held.ensures in
+    rows_read sheet_rows (take (n - 0) c.rows_of-held.result) c.args.fields.now c.args.start c.sheet_of_rows.result c.sheet_of_rows.ensures e c.if-fields-ne0.false

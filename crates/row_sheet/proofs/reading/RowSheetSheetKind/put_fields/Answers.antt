@@ -13,7 +13,7 @@ loop-i-preserved c =
     let rs = c.rows-rows.result.now in
     let at : 4 * c.loop-i.i ≡ length (flat_map row_fields_of (take c.loop-i.i rs)) = omega (arith, length-row_fields (take c.loop-i.i rs), length-take-le c.loop-i.i rs (omega arith)) in
     let len : length c.args.out.now ≡ 40 = search rules in
-    c.put-row.ensures (flat_map row_fields_of (take c.loop-i.i rs)) c.args.out.now c.loop-i.invariant at len
+    c.put_row.ensures (flat_map row_fields_of (take c.loop-i.i rs)) c.args.out.now c.loop-i.invariant at len
     ∙ ap (λ (l : List ℕ). over l c.args.out.now) (sym (joined_take_more row_fields_of rs c.loop-i.i (record { period = 0; deadline = 0; budget = 0; copies = 0 }) (omega arith)))
 
 pub returns : goal.returns

@@ -18,20 +18,20 @@ returns-in-Some g c =
     let refused = ap (λ o. unless o (length (jobs_of s))) (sym c.in-Some.is ∙ c.arrive_refusal.ensures) in
     record {
       step = record { answers = refused; table = refl; clock_stands = refl };
-      same-binder = record { binder_kept = refl; verdict_kept = refl };
-      refused-changes-nothing = λ e q. refl;
+      same_binder = record { binder_kept = refl; verdict_kept = refl };
+      refused_changes_nothing = λ e q. refl;
       recorded = λ h r. arrive_recorded p climbs repeats s.verdict s.clock (jobs_of s) h r c.args.component c.args.deadline (Err c.in-Some.why) (jobs_of s) refused refl;
       certified = λ h r. certified p climbs repeats h r.follows;
     }
 
-pub invariant-of-self : goal.invariant-of-self
-invariant-of-self g c =
+pub invariant_of-self : goal.invariant_of-self
+invariant_of-self g c =
     let s = c.args.self.now in
     let now = s.clock in
     let k = c.args.component in
     let d = c.args.deadline in
     let n = s.table.count in
-    let w = arrive_accepted (is_admitted s.verdict) (g.B.Binder.count s.binder) now (length (jobs_of s)) k d (sym c.in-default.ensures) in (
+    let w = arrive_accepted (is_admitted s.verdict) (g.B.Binder.count s.binder) now (length (jobs_of s)) k d (sym c.in_default.ensures) in (
       s.early,
       (
         subst Numbered (sym c.add.ensures) (numbered_push now (jobs_of s) n k d w.2 w.3 (sym (length-take-le n s.table.jobs (omega (arith, s.table.few, s.table.slots)))) s.numbered),
@@ -53,11 +53,11 @@ returns g c =
     let repeats = g.met.B.Binder.repeats s.binder in
     let n = s.table.count in
     let count_is : length (jobs_of s) ≡ n = length-take-le n s.table.jobs (omega (arith, s.table.few, s.table.slots)) in
-    let accepted = ap (λ (m : ℕ). Ok m) (sym count_is) ∙ ap (λ o. unless o (length (jobs_of s))) c.in-default.ensures in
+    let accepted = ap (λ (m : ℕ). Ok m) (sym count_is) ∙ ap (λ o. unless o (length (jobs_of s))) c.in_default.ensures in
     record {
       step = record { answers = accepted; table = c.add.ensures; clock_stands = refl };
-      same-binder = record { binder_kept = refl; verdict_kept = refl };
-      refused-changes-nothing = λ e q. let z : ◌≡◌ {A = ℕ} 0 1 = cc in absurd (omega arith);
+      same_binder = record { binder_kept = refl; verdict_kept = refl };
+      refused_changes_nothing = λ e q. let z : ◌≡◌ {A = ℕ} 0 1 = cc in absurd (omega arith);
       recorded = λ h r. arrive_recorded p climbs repeats s.verdict s.clock (jobs_of s) h r c.args.component c.args.deadline (Ok n) (records c.add.new.self) accepted c.add.ensures;
       certified = λ h r. certified p climbs repeats h r.follows;
     }

@@ -27,7 +27,7 @@ returns-then-n-jobs g c =
     record {
       value = ap (λ (j : Entry). Some j) (sym here) ∙ sym (cond-true (ltb n (length js)) (Some (at js n)) None (lt-ltb n (length js) known));
       in_range = subst (InRange s.clock n) here range;
-      known-component = λ h r.
+      known_component = λ h r.
           let l : n < length js = known in
           let k = component_known (plan_of g.B.Binder s.binder) (g.met.B.Binder.climbs s.binder) (g.met.B.Binder.repeats s.binder) h r.follows n (omega (arith, l, r.counted)) in
           omega (arith, k, ap (λ (j : Entry). j.component) (sym here ∙ r.each n (omega (arith, l, r.counted))));

@@ -24,8 +24,8 @@ returns-in-Some g c =
     let refused = sym c.tick_refusal.ensures ∙ c.in-Some.is in
     record {
       step = record { answers = (refused, refl); clock_rises = refl };
-      same-binder = record { binder_kept = refl; verdict_kept = refl };
-      refused-changes-nothing = λ e q. refl;
+      same_binder = record { binder_kept = refl; verdict_kept = refl };
+      refused_changes_nothing = λ e q. refl;
       recorded = λ h r. tick_recorded p climbs repeats s.verdict s.clock (jobs_of s) h r (Err c.in-Some.why) (jobs_of s) (refused, refl);
       certified = λ h r. certified p climbs repeats h r.follows;
       needs_met = λ h r. needs_met p.bound h (certified p climbs repeats h r.follows);
@@ -55,8 +55,8 @@ survey-choice-requires g c =
     let s = c.args.self.now in
     let now = s.clock in
     let js = jobs_of s in
-    let e : c.records.result.now ≡ cut_due now js = c.records.ensures.value ∙ c.cut-due-cut.ensures.after in (
-      omega (arith, c.records.ensures.len, c.cut-due-cut.new.self.few),
+    let e : c.records.result.now ≡ cut_due now js = c.records.ensures.value ∙ c.cut_due-cut.ensures.after in (
+      omega (arith, c.records.ensures.len, c.cut_due-cut.new.self.few),
       (subst Proper (sym e) (proper₁ now js s.dated s.slow s.ascending), subst Ascending (sym e) (up₁ now js s.dated s.slow s.ascending)),
     )
 
@@ -65,9 +65,9 @@ run-requires g c =
     let s = c.args.self.now in
     let now = s.clock in
     let js = jobs_of s in
-    let t = c.cut-due-cut.new.self in
+    let t = c.cut_due-cut.new.self in
     let bound = g.B.Binder.bound s.binder in
-    let e : c.records.result.now ≡ cut_due now js = c.records.ensures.value ∙ c.cut-due-cut.ensures.after in
+    let e : c.records.result.now ≡ cut_due now js = c.records.ensures.value ∙ c.cut_due-cut.ensures.after in
     let first = subst (λ xs. RunsFirst (job_in xs) (ReadyIn bound xs) c.survey-choice.result.first) e c.survey-choice.ensures.first in
     let count_is : length (cut_due now js) ≡ t.count = ap length (sym e) ∙ c.records.ensures.len in
     where_some c.survey-choice.result.first _
@@ -75,24 +75,24 @@ run-requires g c =
     let r = ran_open now js s.dated s.slow s.ascending bound _ first n q in
     let w = slow₁ now js s.dated s.slow s.ascending n r.0 in (
       omega (arith, r.0, count_is),
-      subst (λ xs. (at xs n).used < 2 ^ 32 - 1) (sym c.cut-due-cut.ensures.after) (omega (arith, w.0, s.early)),
+      subst (λ xs. (at xs n).used < 2 ^ 32 - 1) (sym c.cut_due-cut.ensures.after) (omega (arith, w.0, s.early)),
     ))
 
-pub invariant-of-self : goal.invariant-of-self
-invariant-of-self g c =
+pub invariant_of-self : goal.invariant_of-self
+invariant_of-self g c =
     let s = c.args.self.now in
     let now = s.clock in
     let js = jobs_of s in
     let bound = g.B.Binder.bound s.binder in
     let o = c.survey-choice.result.first in
-    let e : c.records.result.now ≡ cut_due now js = c.records.ensures.value ∙ c.cut-due-cut.ensures.after in
+    let e : c.records.result.now ≡ cut_due now js = c.records.ensures.value ∙ c.cut_due-cut.ensures.after in
     let first = subst (λ xs. RunsFirst (job_in xs) (ReadyIn bound xs) o) e c.survey-choice.ensures.first in
     let known = ran_open now js s.dated s.slow s.ascending bound o first in
-    let after : records c.run.new.self ≡ with_unit o (cut_due now js) = c.run.ensures ∙ ap (with_unit o) c.cut-due-cut.ensures.after in
+    let after : records c.run.new.self ≡ with_unit o (cut_due now js) = c.run.ensures ∙ ap (with_unit o) c.cut_due-cut.ensures.after in
     let d = dated₁ now js s.dated s.slow s.ascending in
     let w = slow₁ now js s.dated s.slow s.ascending in
     let u = up₁ now js s.dated s.slow s.ascending in (
-      tick_accepted (is_admitted s.verdict) now (sym c.in-default.ensures) s.early,
+      tick_accepted (is_admitted s.verdict) now (sym c.in_default.ensures) s.early,
       (
         subst Numbered (sym after) (numbered_ran now (cut_due now js) d w u o known (numbered_same now js (cut_due now js) (cut_length now js) (cut_each now js) s.numbered)),
         (
@@ -115,20 +115,20 @@ returns g c =
     let repeats = g.met.B.Binder.repeats s.binder in
     let o = c.survey-choice.result.first in
     let held = c.survey-choice.result.held in
-    let cut = c.cut-due-cut.result in
-    let e : c.records.result.now ≡ cut_due now js = c.records.ensures.value ∙ c.cut-due-cut.ensures.after in
+    let cut = c.cut_due-cut.result in
+    let e : c.records.result.now ≡ cut_due now js = c.records.ensures.value ∙ c.cut_due-cut.ensures.after in
     let answered : Ticked = record { ran = o; held = held; cut = cut } in
     let ticks : Ticks p.bound now js answered (records c.run.new.self) = record {
-      cut_counted = c.cut-due-cut.ensures.count;
+      cut_counted = c.cut_due-cut.ensures.count;
       held_counted = subst (λ xs. Counts (HeldIn p.bound xs) (length xs) held) e c.survey-choice.ensures.held;
       first_ran = subst (λ xs. RunsFirst (job_in xs) (ReadyIn p.bound xs) o) e c.survey-choice.ensures.first;
-      one_unit_more = c.run.ensures ∙ ap (with_unit o) c.cut-due-cut.ensures.after;
+      one_unit_more = c.run.ensures ∙ ap (with_unit o) c.cut_due-cut.ensures.after;
     } in
-    let accepted = sym c.in-default.ensures in
+    let accepted = sym c.in_default.ensures in
     record {
       step = record { answers = (accepted, ticks); clock_rises = refl };
-      same-binder = record { binder_kept = refl; verdict_kept = refl };
-      refused-changes-nothing = λ e q. let z : ◌≡◌ {A = ℕ} 0 1 = cc in absurd (omega arith);
+      same_binder = record { binder_kept = refl; verdict_kept = refl };
+      refused_changes_nothing = λ e q. let z : ◌≡◌ {A = ℕ} 0 1 = cc in absurd (omega arith);
       recorded = λ h r. tick_recorded p climbs repeats s.verdict now js h r (Ok answered) (records c.run.new.self) (accepted, ticks);
       certified = λ h r. certified p climbs repeats h r.follows;
       needs_met = λ h r. needs_met p.bound h (certified p climbs repeats h r.follows);

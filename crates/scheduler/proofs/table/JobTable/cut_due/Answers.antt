@@ -21,15 +21,15 @@ module _ (now n : ℕ) (js cut : List Entry) (fits : n ≤ length js) (e : cut �
   front_is : take n (cut ++ drop (n - 0) js) ≡ cut_due now (take n js)
   front_is = take_at cut (drop (n - 0) js) n cut_length ∙ cut_front
 
-pub invariant-of-self : goal.invariant-of-self
-invariant-of-self c =
+pub invariant_of-self : goal.invariant_of-self
+invariant_of-self c =
     let t = c.args.self.now in
-    (t.few, (all_length c.args.clock t.count t.jobs c.cut-all.new.jobs (omega (arith, t.few, t.slots)) c.cut-all.ensures.after ∙ t.slots, tt))
+    (t.few, (all_length c.args.clock t.count t.jobs c.cut_all.new.jobs (omega (arith, t.few, t.slots)) c.cut_all.ensures.after ∙ t.slots, tt))
 
 pub returns : goal.returns
 returns c =
     let t = c.args.self.now in
     record {
-      after = front_is c.args.clock t.count t.jobs c.cut-all.new.jobs (omega (arith, t.few, t.slots)) c.cut-all.ensures.after;
-      count = subst (λ m. Counts (DueIn c.args.clock (take m t.jobs)) (length (take m t.jobs)) c.cut-all.result) (sub-zero t.count) c.cut-all.ensures.count;
+      after = front_is c.args.clock t.count t.jobs c.cut_all.new.jobs (omega (arith, t.few, t.slots)) c.cut_all.ensures.after;
+      count = subst (λ m. Counts (DueIn c.args.clock (take m t.jobs)) (length (take m t.jobs)) c.cut_all.result) (sub-zero t.count) c.cut_all.ensures.count;
     }

@@ -10,7 +10,7 @@ returns c =
     let n = c.args.n in
     let here : at (take t.count t.jobs) n ≡ at t.jobs n = get_or-take t.count t.jobs n empty_entry c.requires in
     record {
-      answer = c.end-job.ensures.answer ∙ ap ending_answer (sym here);
-      after = take-set-lt t.count t.jobs n c.end-job.new.job c.requires
-          ∙ ap (set (take t.count t.jobs) n) (c.end-job.ensures.after ∙ ap (ended c.args.ending) (sym here));
+      answer = c.end_job.ensures.answer ∙ ap ending_answer (sym here);
+      after = take-set-lt t.count t.jobs n c.end_job.new.job c.requires
+          ∙ ap (set (take t.count t.jobs) n) (c.end_job.ensures.after ∙ ap (ended c.args.ending) (sym here));
     }

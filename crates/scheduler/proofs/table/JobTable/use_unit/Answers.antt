@@ -5,8 +5,8 @@ use Rattle.scheduler.specs.Table.{at, empty_entry}
 use Rattle.scheduler.specs.Steps.{with_used}
 use Rattle.scheduler.proofs.table.JobTable.use_unit.Goals as goal
 
-pub overflow-add-job : goal.overflow-add-job
-overflow-add-job c =
+pub overflow_add-job : goal.overflow_add-job
+overflow_add-job c =
     let t = c.args.self.now in
     let here : at (take t.count t.jobs) c.args.n ≡ at t.jobs c.args.n = get_or-take t.count t.jobs c.args.n empty_entry c.requires.0 in
     omega (arith, c.requires.1, ap (λ (j : Entry). j.used) here)

@@ -9,13 +9,13 @@ use Rattle.transcript.proofs.reading.Script.read.Goals as goal
 not_empty : (bs : List ℕ) → false ≡ eqb (length bs) 0 → 0 < length bs
 not_empty bs e = let ne = eqb-false (length bs) 0 (sym e) in omega arith
 
-pub returns-in-default : goal.returns-in-default
-returns-in-default c =
+pub returns-in_default : goal.returns-in_default
+returns-in_default c =
     let rest = c.loop-rest.rest.now in
     let calls = vec_items c.loop-rest.calls in
     let some = not_empty rest c.loop-rest-test.ensures in
-    let cut = c.cut-at.ensures in
-    let nothing = c.in-default.ensures in
+    let cut = c.cut_at.ensures in
+    let nothing = c.in_default.ensures in
     record {
       calls = sym (c.loop-rest.invariant.0 ∙ ap (λ (l : List Call). calls ++ l) (calls_end rest _ _ some cut.before cut.behind nothing) ∙ append-nil calls);
       unreadable = sym (c.loop-rest.invariant.1 ∙ unreadable_here rest _ _ some cut.before cut.behind c.loop-rest.number nothing);
@@ -24,16 +24,16 @@ returns-in-default c =
 pub loop-rest-smaller : goal.loop-rest-smaller
 loop-rest-smaller c =
     let rest = c.loop-rest.rest.now in
-    next_shorter rest _ _ (not_empty rest c.loop-rest-test.ensures) c.cut-at.ensures.before c.cut-at.ensures.behind
+    next_shorter rest _ _ (not_empty rest c.loop-rest-test.ensures) c.cut_at.ensures.before c.cut_at.ensures.behind
 
 pub loop-rest-preserved : goal.loop-rest-preserved
 loop-rest-preserved c =
     let rest = c.loop-rest.rest.now in
     let some = not_empty rest c.loop-rest-test.ensures in
-    let cut = c.cut-at.ensures in
+    let cut = c.cut_at.ensures in
     let said = c.in-Some.ensures in
     let shorter = next_shorter rest _ _ some cut.before cut.behind in (
-      calls_more rest _ _ some cut.before cut.behind (calls_in (lines c.args.input.now)) (vec_items c.loop-rest.calls) (vec_items c.push.new.self) c.in-Some.call said c.in-ok-push.ensures.items c.loop-rest.invariant.0,
+      calls_more rest _ _ some cut.before cut.behind (calls_in (lines c.args.input.now)) (vec_items c.loop-rest.calls) (vec_items c.push.new.self) c.in-Some.call said c.in_ok-push.ensures.items c.loop-rest.invariant.0,
       c.loop-rest.invariant.1 ∙ unreadable_more rest _ _ some cut.before cut.behind c.loop-rest.number c.in-Some.call said,
       omega arith,
     )

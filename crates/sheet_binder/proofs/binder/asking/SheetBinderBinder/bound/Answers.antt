@@ -10,4 +10,4 @@ returns-then-k-self c =
     sym (past_bound (declarations c.args.self.now) c.args.k c.args.length (omega (arith, n)))
 
 pub returns : goal.returns
-returns c = c.bound-at.ensures ∙ declared_bound c.args.self.now.sheets c.args.self.now.len c.args.k c.args.length _ (omega arith) (omega arith)
+returns c = c.bound_at.ensures ∙ declared_bound c.args.self.now.sheets c.args.self.now.len c.args.k c.args.length _ (omega arith) (omega arith)

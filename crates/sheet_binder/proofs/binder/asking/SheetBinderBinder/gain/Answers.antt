@@ -10,4 +10,4 @@ returns-then-k-self c =
     sym (past_gain (declarations c.args.self.now) c.args.k (omega (arith, n)))
 
 pub returns : goal.returns
-returns c = c.gain-units.ensures ∙ declared_gain c.args.self.now.sheets c.args.self.now.len c.args.k _ (omega arith) (omega arith)
+returns c = c.gain_units.ensures ∙ declared_gain c.args.self.now.sheets c.args.self.now.len c.args.k _ (omega arith) (omega arith)
