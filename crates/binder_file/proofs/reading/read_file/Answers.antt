@@ -11,8 +11,8 @@ use Rattle.binder_file.proofs.reading.read_file.Goals as goal
 
 pub returns-in_err-binder : goal.returns-in_err-binder
 returns-in_err-binder c =
-    let a : c.from-residual.result ≡ meaning (λ _. tt {0}) (decode c.args.bytes.now) = search rules in
-    let p = err_from_is_err_and c.from-residual.result c.from-residual.ensures.1 in
+    let a : c.from_residual.result ≡ meaning (λ _. tt {0}) (decode c.args.bytes.now) = search rules in
+    let p = err_from_is_err_and c.from_residual.result c.from_residual.ensures.1 in
     let f : Err p.0 ≡ decode c.args.bytes.now = ap (λ (x : FileFault). Err x) p.2 ∙ c.in_err-binder.ensures in
     record {
       answer = a;

@@ -17,11 +17,11 @@ returns-then-bytes-start c =
 
 pub returns-in_err-sheet : goal.returns-in_err-sheet
 returns-in_err-sheet c =
-    let p = err_from_is_err_and c.from-residual.result c.from-residual.ensures.1 in
+    let p = err_from_is_err_and c.from_residual.result c.from_residual.ensures.1 in
     let f : record_judged c.args.bytes.now c.args.start ≡ Err p.0 = sym c.in_err-sheet.ensures ∙ ap (λ (e : FileFault). Err e) (sym p.2) in
     record {
       rest = λ most. rest_fails (declarations c.args.binder.now) most c.args.bytes.now c.args.start p.0 (omega arith) f ∙ sym (then_err _ p.0 _ p.1);
-      next = IfOk-from_err c.from-residual.result _ c.from-residual.ensures.0;
+      next = IfOk-from_err c.from_residual.result _ c.from_residual.ensures.0;
     }
 
 pub returns : goal.returns

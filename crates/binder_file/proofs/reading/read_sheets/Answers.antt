@@ -34,7 +34,7 @@ loop-i-preserved c =
 
 pub returns-in_err-start : goal.returns-in_err-start
 returns-in_err-start c =
-    let p = err_from_is_err_and c.from-residual.result c.from-residual.ensures.1 in
+    let p = err_from_is_err_and c.from_residual.result c.from_residual.ensures.1 in
     let e : 8 - c.loop-i.i ≡ (8 - (c.loop-i.i + 1)) + 1 = omega arith in
     let d : decode c.args.bytes.now ≡ Err p.0 =
     decode_some c.args.bytes.now (sym c.if-is_empty.ensures) ∙ c.loop-i.invariant.0

@@ -8,7 +8,7 @@ use Rattle.row_sheet.proofs.making.judge_rows.Goals as goal
 
 pub returns-in_err-judge_row : goal.returns-in_err-judge_row
 returns-in_err-judge_row c =
-    let p = err_from_is_err_and c.from-residual.result c.from-residual.ensures.1 in
+    let p = err_from_is_err_and c.from_residual.result c.from_residual.ensures.1 in
     let s = rows_from_more c.loop-row.last c.args.rows.now c.args.start c.loop-row.offset c.loop-row.row-index _ (omega arith) in
     let f = then_err _ _ _ (sym c.in_err-judge_row.ensures) in
     rw (p.1, p.2) (sym (rows_counted c.args.rows.now c.args.start c.if-rows-lt1.false c.if-rows-gt8.false ∙ c.loop-row.invariant.1 ∙ s ∙ f))

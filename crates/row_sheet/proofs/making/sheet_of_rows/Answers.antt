@@ -11,7 +11,7 @@ pub invariant_of-result : goal.invariant_of-result
 invariant_of-result c =
     let e = take_at c.copy_from_slice.new.self _ (length c.args.rows.now) (ap length c.copy_from_slice.ensures.after) ∙ c.copy_from_slice.ensures.after in
     let s = sound_anywhere c.args.rows.now c.args.start (ap (λ (z : Result (Unit {0}) FileFault). is_ok z) (sym c.in_ok-judge_rows.ensures)) in
-    (search rules, (ap (λ (l : List Row). sound_rows l) e ∙ s, tt))
+    record { few = search rules; sound = ap (λ (l : List Row). sound_rows l) e ∙ s }
 
 pub returns : goal.returns
 returns c =

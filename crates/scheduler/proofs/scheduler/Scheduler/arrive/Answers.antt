@@ -31,19 +31,14 @@ invariant_of-self g c =
     let k = c.args.component in
     let d = c.args.deadline in
     let n = s.table.count in
-    let w = arrive_accepted (is_admitted s.verdict) (g.B.Binder.count s.binder) now (length (jobs_of s)) k d (sym c.in_default.ensures) in (
-      s.early,
-      (
-        subst Numbered (sym c.add.ensures) (numbered_push now (jobs_of s) n k d w.2 w.3 (sym (length-take-le n s.table.jobs (omega (arith, s.table.few, s.table.slots)))) s.numbered),
-        (
-          subst (Dated now) (sym c.add.ensures) (dated_push now (jobs_of s) n k d w.2 w.3 s.dated),
-          (
-            subst (Slow now) (sym c.add.ensures) (slow_push now (jobs_of s) n k d w.2 w.3 s.slow),
-            (subst Ascending (sym c.add.ensures) (ascending_push now (jobs_of s) n k d w.2 w.3 s.dated s.ascending), tt),
-          ),
-        ),
-      ),
-    )
+    let w = arrive_accepted (is_admitted s.verdict) (g.B.Binder.count s.binder) now (length (jobs_of s)) k d (sym c.in_default.ensures) in
+    record {
+      early = s.early;
+      numbered = subst Numbered (sym c.add.ensures) (numbered_push now (jobs_of s) n k d w.2 w.3 (sym (length-take-le n s.table.jobs (omega (arith, s.table.few, s.table.slots)))) s.numbered);
+      dated = subst (Dated now) (sym c.add.ensures) (dated_push now (jobs_of s) n k d w.2 w.3 s.dated);
+      slow = subst (Slow now) (sym c.add.ensures) (slow_push now (jobs_of s) n k d w.2 w.3 s.slow);
+      ascending = subst Ascending (sym c.add.ensures) (ascending_push now (jobs_of s) n k d w.2 w.3 s.dated s.ascending);
+    }
 
 pub returns : goal.returns
 returns g c =

@@ -34,19 +34,14 @@ invariant_of-self g c =
     let js = jobs_of s in
     let n = c.args.job in
     let w = finish_accepted (is_admitted s.verdict) (length js) n (is_open (at js n).status) (sym c.in_default.ensures) in
-    let each = ended_each ending.Finish js n w.1 in (
-      s.early,
-      (
-        subst Numbered (sym c.end.ensures.after) (numbered_same now js _ (ended_length js n _) each s.numbered),
-        (
-          subst (Dated now) (sym c.end.ensures.after) (dated_same now js _ (ended_length js n _) each s.dated),
-          (
-            subst (Slow now) (sym c.end.ensures.after) (slow_same now js _ (ended_length js n _) each s.slow),
-            (subst Ascending (sym c.end.ensures.after) (ascending_same now js _ (ended_length js n _) each s.ascending), tt),
-          ),
-        ),
-      ),
-    )
+    let each = ended_each ending.Finish js n w.1 in
+    record {
+      early = s.early;
+      numbered = subst Numbered (sym c.end.ensures.after) (numbered_same now js _ (ended_length js n _) each s.numbered);
+      dated = subst (Dated now) (sym c.end.ensures.after) (dated_same now js _ (ended_length js n _) each s.dated);
+      slow = subst (Slow now) (sym c.end.ensures.after) (slow_same now js _ (ended_length js n _) each s.slow);
+      ascending = subst Ascending (sym c.end.ensures.after) (ascending_same now js _ (ended_length js n _) each s.ascending);
+    }
 
 pub returns : goal.returns
 returns g c =

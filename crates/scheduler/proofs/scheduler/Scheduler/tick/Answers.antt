@@ -91,19 +91,14 @@ invariant_of-self g c =
     let after : records c.run.new.self ≡ with_unit o (cut_due now js) = c.run.ensures ∙ ap (with_unit o) c.cut_due-cut.ensures.after in
     let d = dated₁ now js s.dated s.slow s.ascending in
     let w = slow₁ now js s.dated s.slow s.ascending in
-    let u = up₁ now js s.dated s.slow s.ascending in (
-      tick_accepted (is_admitted s.verdict) now (sym c.in_default.ensures) s.early,
-      (
-        subst Numbered (sym after) (numbered_ran now (cut_due now js) d w u o known (numbered_same now js (cut_due now js) (cut_length now js) (cut_each now js) s.numbered)),
-        (
-          subst (Dated (now + 1)) (sym after) (dated_ran now (cut_due now js) d w u o known),
-          (
-            subst (Slow (now + 1)) (sym after) (slow_ran now (cut_due now js) d w u o known),
-            (subst Ascending (sym after) (ascending_ran now (cut_due now js) d w u o known), tt),
-          ),
-        ),
-      ),
-    )
+    let u = up₁ now js s.dated s.slow s.ascending in
+    record {
+      early = tick_accepted (is_admitted s.verdict) now (sym c.in_default.ensures) s.early;
+      numbered = subst Numbered (sym after) (numbered_ran now (cut_due now js) d w u o known (numbered_same now js (cut_due now js) (cut_length now js) (cut_each now js) s.numbered));
+      dated = subst (Dated (now + 1)) (sym after) (dated_ran now (cut_due now js) d w u o known);
+      slow = subst (Slow (now + 1)) (sym after) (slow_ran now (cut_due now js) d w u o known);
+      ascending = subst Ascending (sym after) (ascending_ran now (cut_due now js) d w u o known);
+    }
 
 pub returns : goal.returns
 returns g c =

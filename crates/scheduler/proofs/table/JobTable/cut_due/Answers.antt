@@ -24,7 +24,10 @@ module _ (now n : ℕ) (js cut : List Entry) (fits : n ≤ length js) (e : cut �
 pub invariant_of-self : goal.invariant_of-self
 invariant_of-self c =
     let t = c.args.self.now in
-    (t.few, (all_length c.args.clock t.count t.jobs c.cut_all.new.jobs (omega (arith, t.few, t.slots)) c.cut_all.ensures.after ∙ t.slots, tt))
+    record {
+      few = t.few;
+      slots = all_length c.args.clock t.count t.jobs c.cut_all.new.jobs (omega (arith, t.few, t.slots)) c.cut_all.ensures.after ∙ t.slots;
+    }
 
 pub returns : goal.returns
 returns c =
