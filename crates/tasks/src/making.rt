@@ -108,8 +108,8 @@ fn in_order(carried: Row, held: Row) -> (Row, Row)
 // Puts a row among the first `len`, which stand in sheet order: to the row that it is like, or to its place. Answers how many
 // rows there are then.
 fn place(row: Row, rows: &mut [Row; 8], len: usize) -> usize
-    requires rows_len_bound { (length (placed row (take len rows.old)) ≤ 8) × ((len ≤ 8) × (row.copies ≤ 16)) }
-    requires by_index { (k : ℕ) → k < len → (slice_index_or rows.old k no_row).copies ≤ 16 }
+    requires fits { (length (placed row (take len rows.old)) ≤ 8) × ((len ≤ 8) × (row.copies ≤ 16)) }
+    requires few_copies { (k : ℕ) → k < len → (slice_index_or rows.old k no_row).copies ≤ 16 }
     ensures { (take result rows.new ≡ placed row (take len rows.old)) × (result ≡ length (placed row (take len rows.old))) }
 {
     let mut carried = row;

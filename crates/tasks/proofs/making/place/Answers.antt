@@ -12,7 +12,7 @@ small_copies : (b : Bool) (r s x : Row) → x ≡ cond b r s → r.copies ≤ 16
 small_copies b r s x e p q = subst (λ (y : Row). y.copies ≤ 16) (sym e) (cond_both b r s (λ (y : Row). y.copies ≤ 16) (λ _. p) (λ _. q))
 
 pub loop-i-init : goal.loop-i-init
-loop-i-init c = let n : length c.args.rows.now ≡ 8 = search rules in (n, search rules, search rules, c.requires.1)
+loop-i-init c = let n : length c.args.rows.now ≡ 8 = search rules in (n, search rules, search rules, c.requires.few_copies)
 
 pub returns-then-are_alike : goal.returns-then-are_alike
 returns-then-are_alike c =
@@ -42,7 +42,7 @@ pub bounds-rows-len : goal.bounds-rows-len
 bounds-rows-len c =
     let v = c.loop-i.invariant in
     let n = ap (λ (l : List Row). length l) v.1 in
-    omega (arith, n, placed_last_length c.loop-i.rows c.loop-i.i c.args.len c.loop-i.carried (omega arith) (omega arith) (omega (arith, v.0)), c.requires.0)
+    omega (arith, n, placed_last_length c.loop-i.rows c.loop-i.i c.args.len c.loop-i.carried (omega arith) (omega arith) (omega (arith, v.0)), c.requires.fits)
 
 pub returns : goal.returns
 returns c =

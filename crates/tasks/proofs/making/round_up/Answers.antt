@@ -5,7 +5,7 @@ use Rattle.tasks.proofs.making.round_up.Goals.{then-x-power, else-x-power}
 
 pub loop-i-preserved : goal.loop-i-preserved
 loop-i-preserved c =
-    let i = c.loop-i.-i in
+    let i = c.loop-i._i in
     let p = c.loop-i.power in
     let h = c.loop-i.invariant.0 in (
       power_more i p h,

@@ -36,15 +36,16 @@ place-len-requires c =
     let f : no_room (copies_of c.row_of-row.result (take c.loop-i.len c.loop-i.rows)) (length (take c.loop-i.len c.loop-i.rows)) ≡ false =
     ap (λ (n : ℕ). no_room (copies_of c.row_of-row.result (take n c.loop-i.rows)) (length (take n c.loop-i.rows))) (sym z) ∙ sym c.if-is_crowded.ensures in
     let one : c.row_of-row.result.copies ≡ 1 = ap (λ (r : Row). r.copies) c.row_of-row.ensures in
-    let ranged = subst (λ (r : Row). row_ranges r ≡ true) (sym c.row_of-row.ensures) (a.ranged i (omega arith)) in (
-      (
+    let ranged = subst (λ (r : Row). row_ranges r ≡ true) (sym c.row_of-row.ensures) (a.ranged i (omega arith)) in
+    record {
+      fits = (
         placed_few (map rounded ts) i (take c.loop-i.len c.loop-i.rows) c.row_of-row.result v.2 (omega (arith, length-map ts rounded)) is f one ranged,
         (omega (arith, v.1, v.2.few), omega arith),
-      ),
-      λ k h.
+      );
+      few_copies = λ k h.
           let r = All-get_or (λ r. row_ranges r ≡ true) (take c.loop-i.len c.loop-i.rows) k no_row (omega (arith, v.1)) v.2.ranged in
-          subst (λ (x : Row). x.copies ≤ 16) (get_or-take c.loop-i.len c.loop-i.rows k no_row h) (ranges_from (get_or (take c.loop-i.len c.loop-i.rows) k no_row) r).copies_high,
-    )
+          subst (λ (x : Row). x.copies ≤ 16) (get_or-take c.loop-i.len c.loop-i.rows k no_row h) (ranges_from (get_or (take c.loop-i.len c.loop-i.rows) k no_row) r).copies_high;
+    }
 
 pub loop-i-preserved : goal.loop-i-preserved
 loop-i-preserved c =
