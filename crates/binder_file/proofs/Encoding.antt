@@ -1,5 +1,5 @@
 use Rattle.std.proofs.Common.{◌≡◌, ℕ, zero, suc, ◌+◌, ◌-◌, ◌<◌, ◌≤◌, false, eqb, ltb, List, [], ◌∷◌, ◌++◌, map, length, get_or, take, drop, Ok, Err, Result, sym, refl, ap, ◌∙◌, arith}
-use Rattle.std.specs.List.{flat_map, AllByRecursion as All}
+use Rattle.std.specs.List.{flat_map, AllByRecursion}
 use Rattle.std.proofs.lemmas.List.{append_assoc, append-nil, length-append, length-map, take_at}
 use Rattle.std.proofs.lemmas.Bool.{cond-true, cond-false, ne_eqb, lt-ltb, le-ltb}
 use Rattle.sheets.specs.declared.fault.RecordStart.{RecordStart}
@@ -37,7 +37,7 @@ abbrev Accepted : Declaration → Type 0
 Accepted d = (start : RecordStart) → making_judged d start ≡ Ok tt
 
 -- the records of some sheets, behind other bytes, declare those sheets
-records_back : (before : List ℕ) (ds : List Declaration) (start : RecordStart) (most : ℕ) → start.place ≡ length before → length ds ≤ most → All Accepted ds → records_from most (before ++ encode ds) start ≡ Ok ds
+records_back : (before : List ℕ) (ds : List Declaration) (start : RecordStart) (most : ℕ) → start.place ≡ length before → length ds ≤ most → AllByRecursion Accepted ds → records_from most (before ++ encode ds) start ≡ Ok ds
 records_back before [] start most at h a =
     records_ended most (before ++ []) start (omega (arith, at, ap (λ (l : List ℕ). length l) (append-nil before)))
 records_back before (d ∷ ds) start zero at h a = absurd (omega arith)
@@ -54,7 +54,7 @@ records_back before (d ∷ ds) start (suc most) at h a =
     ∙ ap (λ (r : Result Declaration FileFault). then r (λ x. then (records_from most file next) (λ xs. Ok (x ∷ xs)))) here
     ∙ ap (λ (r : Result (List Declaration) FileFault). then r (λ xs. Ok (d ∷ xs))) rest
 
-all_accepted : (ss : List Sheet) → All Accepted (map declared ss)
+all_accepted : (ss : List Sheet) → AllByRecursion Accepted (map declared ss)
 all_accepted [] = tt
 all_accepted (s ∷ ss) = (sheet_accepted s, all_accepted ss)
 

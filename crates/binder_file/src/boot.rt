@@ -14,10 +14,9 @@ fn pack(number: u32, detail: u32) -> u32
     number * 65536 + detail
 }
 
-// The verdict on a binder file, for boot code in C: 0 for admitted, otherwise the refusal's number times 65,536 plus the
-// place or the length. Number and detail can be told apart again, and refusal 10 never comes from a file.
-#[unsafe(no_mangle)]
-pub extern "C" fn binder_verdict(bytes: &[u8]) -> u32
+// The verdict on a binder file, for boot code: 0 for admitted, otherwise the refusal's number times 65,536 plus the place or the
+// length. Number and detail can be told apart again, and refusal 10 never comes from a file.
+pub fn binder_verdict(bytes: &[u8]) -> u32
     ensures value { result ≡ boot_number (boot_parts (decode bytes.now)) }
     ensures told_apart { (result / 65536 ≡ (boot_parts (decode bytes.now)).0) × (result % 65536 ≡ (boot_parts (decode bytes.now)).1) }
     ensures never_ten { (boot_parts (decode bytes.now)).0 ≢ 10 }

@@ -1,5 +1,5 @@
 use Rattle.std.proofs.Common.{◌≡◌, ℕ, Bool, true, false, ◌&&◌, eqb, List, [], ◌∷◌, ◌++◌, map, is_ok, Ok, Err, fold, Result, sym, refl, ap, ◌∙◌, subst}
-use Rattle.std.specs.List.{AllByRecursion as All}
+use Rattle.std.specs.List.{AllByRecursion}
 use Rattle.std.proofs.lemmas.List.{append_assoc, append-nil}
 use Rattle.std.proofs.lemmas.Bool.{and_parts, eqb-true, true≢false}
 use Rattle.sheets.specs.declared.row.Row.{Row}
@@ -89,10 +89,10 @@ agrees_so (fault bytes (n, r, l)) h =
     let q = and_parts (eqb x.1 r) (eqb x.2 l) p.1 in
     three_same _ _ _ _ _ _ (eqb-true x.0 n p.0) (eqb-true x.1 r q.0) (eqb-true x.2 l q.1)
 
-all_so : (vs : List Value) → all_agree vs ≡ true → All Agrees vs
+all_so : (vs : List Value) → all_agree vs ≡ true → AllByRecursion Agrees vs
 unfolding all_agree
 all_so [] h = tt
 all_so (v ∷ vs) h = let p = and_parts (agrees v) (all_agree vs) h in (agrees_so v p.0, all_so vs p.1)
 
-pub reference_values_agree : All Agrees reference_values
+pub reference_values_agree : AllByRecursion Agrees reference_values
 reference_values_agree = all_so reference_values computed

@@ -3,7 +3,7 @@
 #![tactic(auto)]
 
 ghost use Rattle.std.specs.Prelude.{◌≡◌, length};
-ghost use Rattle.std.specs.List.{AllByRecursion as All};
+ghost use Rattle.std.specs.List.{AllByRecursion};
 ghost use Rattle.checks.specs.Reference.{Agrees, reference_values};
 
 #[cfg(test)]
@@ -13,7 +13,7 @@ mod transcripts;
 
 // How many reference values there are: the definitions give every one of them.
 pub fn reference_values() -> u32
-    ensures agree { All Agrees reference_values }
+    ensures agree { AllByRecursion Agrees reference_values }
     ensures count { result ≡ length reference_values }
 {
     17

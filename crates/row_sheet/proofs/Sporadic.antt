@@ -1,5 +1,5 @@
 use Rattle.std.proofs.Common.{◌≡◌, ℕ, zero, suc, ◌+◌, ◌-◌, ◌*◌, ◌/◌, ◌<◌, ◌≤◌, Bool, true, false, cond, ◌&&◌, ltb, leb, ◌⊎◌, List, [], ◌∷◌, length, replicate, sum_by, sym, refl, ap, ◌∙◌, inl, inr, ⊎_elim, mul_assoc, suc-mul, mul_comm, mul-le-mul_left, mul-zero, div-mul-le_self, arith}
-use Rattle.std.specs.List.{AllByRecursion as All}
+use Rattle.std.specs.List.{AllByRecursion}
 use Rattle.std.proofs.lemmas.Nat.{le-div}
 use Rattle.std.proofs.ByRecursion.{All-weaker, sum_by_le}
 use Rattle.std.proofs.lemmas.List.{length-replicate}
@@ -100,7 +100,7 @@ sum_same : (f : List ℕ → ℕ) (n c : ℕ) (t : List ℕ) → f t ≡ c → s
 sum_same f zero c t e = omega (arith, suc-mul 0 c)
 sum_same f (suc n) c t e = omega (arith, sum_by-cons f t (replicate n t), sum_same f n c t e, suc-mul n c, e)
 
-all_same : (P : List ℕ → Type 0) (n : ℕ) (t : List ℕ) → P t → All P (replicate n t)
+all_same : (P : List ℕ → Type 0) (n : ℕ) (t : List ℕ) → P t → AllByRecursion P (replicate n t)
 all_same P zero t h = tt
 all_same P (suc n) t h = (h, all_same P n t h)
 
@@ -119,7 +119,7 @@ row_attains r l s =
     let e : r.budget * sum_by (jobs_within r.deadline s (s + l)) (replicate r.copies t) ≡ r.copies * r.budget * steps r l = ap (λ n. r.budget * n) (sum_same (jobs_within r.deadline s (s + l)) r.copies (steps r l) t (task_attains r l s)) ∙ sym (mul_assoc r.budget r.copies (steps r l)) ∙ ap (λ n. n * steps r l) (mul_comm r.budget r.copies) in
     (record { tasks = replicate r.copies t; counted = length-replicate r.copies t; sporadic = all_same (Sporadic r.period) r.copies t (dense_sporadic r.period s (steps r l)) }, e ∙ sym (bound_steps r l))
 
-most : (rs : List Row) (l : ℕ) → All Ranges rs → (b : Behaviours rs) (s : ℕ) → work rs b s (s + l) ≤ rows_bound rs l
+most : (rs : List Row) (l : ℕ) → AllByRecursion Ranges rs → (b : Behaviours rs) (s : ℕ) → work rs b s (s + l) ≤ rows_bound rs l
 most [] l a b s = omega arith
 most (r ∷ rs) l a b s = omega (arith, row_most r l s b.0 a.0, most rs l a.1 b.1 s, sum_by-cons (λ x. row_bound x l) r rs)
 
@@ -131,5 +131,5 @@ attains (r ∷ rs) l s =
     ((p.0, q.0), omega (arith, p.1, q.1, sum_by-cons (λ x. row_bound x l) r rs))
 
 -- the bound of rows in their ranges is the most work that their tasks can bring
-pub bound_is_most : (rs : List Row) (l : ℕ) → All Ranges rs → MostWork rs l (rows_bound rs l)
+pub bound_is_most : (rs : List Row) (l : ℕ) → AllByRecursion Ranges rs → MostWork rs l (rows_bound rs l)
 bound_is_most rs l a = record { never_more = most rs l a; attained = attains rs l }

@@ -1,5 +1,5 @@
 use Rattle.std.specs.Prelude.{◌≡◌, ℕ, ◌+◌, ◌*◌, ◌≤◌, ◌&&◌, List, [], ◌∷◌, length, sum_by, count_by, nat_le}
-use Rattle.std.specs.List.{AllByRecursion as All}
+use Rattle.std.specs.List.{AllByRecursion}
 use Rattle.sheets.specs.declared.row.Row.{Row}
 
 -- release times of one task, in order and at least `period` ticks apart
@@ -16,7 +16,7 @@ jobs_within deadline s e releases = count_by (λ a. nat_le s a && nat_le (a + de
 pub record Behaviour (r : Row) : Type 0 where
   pub tasks : List (List ℕ)
   pub counted : length tasks ≡ r.copies
-  pub sporadic : All (Sporadic r.period) tasks
+  pub sporadic : AllByRecursion (Sporadic r.period) tasks
 
 -- a behaviour of each row of a sheet
 abbrev pub Behaviours : List Row → Type 0

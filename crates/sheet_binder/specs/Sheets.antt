@@ -1,11 +1,11 @@
 use Rattle.std.specs.Prelude.{◌≡◌, ℕ, ◌+◌, ◌^◌, ◌<◌, ◌≤◌, List, [], ◌∷◌, ◌++◌, map, length, take, Ok, slice_index_or, slice_set}
 use Rattle.std.proofs.Common.{sym, ap, ◌∙◌, arith}
-use Rattle.std.specs.List.{AllByRecursion as All}
+use Rattle.std.specs.List.{AllByRecursion}
 use Rattle.std.proofs.lemmas.List.{length-map, length-take-le, take_more_set, map_push, get_or-map, get_or-take}
 use Rattle.sheets.specs.declared.fault.RecordStart.{RecordStart}
 use Rattle.sheets.specs.Kinds.{making_judged}
-use Rattle.sheets.specs.Sheets.{Declaration, bound_of, gain_of, component_value, component_bound, component_gain}
-use Rattle.sheets.proofs.Components.{component_here}
+use Rattle.sheets.specs.Sheets.{Declaration, bound_of, gain_of, component_bound, component_gain}
+use Rattle.sheets.proofs.Components.{at_bound, at_gain}
 use Rattle.sheets.proofs.Lawful.{Lawful, sound_rows_lawful, sound_line_lawful, components_lawful}
 use Rattle.sheets.proofs.Records.{sound_rows_accepted, sound_line_accepted}
 use Rattle.row_sheet.specs.RowSheets.{sheet_rows}
@@ -25,18 +25,16 @@ declared_more ss n s h = ap (map declared) (take_more_set ss n s h) ∙ map_push
 sheet_at : (ss : List Sheet) (n k : ℕ) (d : Sheet) → k < n → n ≤ length ss → slice_index_or (map declared (take n ss)) k (declared d) ≡ declared (slice_index_or ss k d)
 sheet_at ss n k d h m = get_or-map declared (take n ss) k d (declared d) (omega (arith, length-take-le n ss m)) ∙ ap declared (get_or-take n ss k d h)
 
-declared_value : (f : Declaration → ℕ) (ss : List Sheet) (n k : ℕ) (d : Sheet) → k < n → n ≤ length ss → f (declared (slice_index_or ss k d)) ≡ component_value f (map declared (take n ss)) k
-declared_value f ss n k d h m =
-    ap f (sym (sheet_at ss n k d h m)) ∙ sym (component_here f (map declared (take n ss)) k (declared d) (omega (arith, length_declared ss n m)))
-
 pub declared_bound : (ss : List Sheet) (n k l : ℕ) (d : Sheet) → k < n → n ≤ length ss → bound_of (declared (slice_index_or ss k d)) l ≡ component_bound (map declared (take n ss)) k l
-declared_bound ss n k l d h m = declared_value (λ x. bound_of x l) ss n k d h m
+declared_bound ss n k l d h m =
+    ap (λ x. bound_of x l) (sym (sheet_at ss n k d h m)) ∙ sym (at_bound (map declared (take n ss)) k l (declared d) (omega (arith, length_declared ss n m)))
 
 pub declared_gain : (ss : List Sheet) (n k : ℕ) (d : Sheet) → k < n → n ≤ length ss → gain_of (declared (slice_index_or ss k d)) ≡ component_gain (map declared (take n ss)) k
-declared_gain ss n k d h m = declared_value gain_of ss n k d h m
+declared_gain ss n k d h m =
+    ap gain_of (sym (sheet_at ss n k d h m)) ∙ sym (at_gain (map declared (take n ss)) k (declared d) (omega (arith, length_declared ss n m)))
 
 -- every sheet has the laws of a bound, and so has each component of a list of sheets
-all_lawful : (ss : List Sheet) → All (λ d. Lawful (bound_of d) (gain_of d) (2 ^ 52)) (map declared ss)
+all_lawful : (ss : List Sheet) → AllByRecursion (λ d. Lawful (bound_of d) (gain_of d) (2 ^ 52)) (map declared ss)
 all_lawful [] = tt
 all_lawful (Rows s ∷ ss) = (sound_rows_lawful (sheet_rows s) s.sound, all_lawful ss)
 all_lawful (Line s ∷ ss) = (sound_line_lawful s.line s.sound, all_lawful ss)

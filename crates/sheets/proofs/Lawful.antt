@@ -1,6 +1,6 @@
 use Rattle.std.proofs.Common.{◌≡◌, ℕ, zero, suc, ◌+◌, ◌-◌, ◌*◌, ◌/◌, ◌%◌, ◌^◌, ◌<◌, ◌≤◌, Bool, true, false, cond, ◌&&◌, ltb, leb, List, [], ◌∷◌, length, sum_by, sym, refl, ap, ◌∙◌, mul-le-mul_right, mul_assoc, mul_comm, mul-le-mul_left, mul-add, div-mul-le_self, arith}
 use native.Mathlib.Nat.{div-le_of_le-mul, add-mul-div_left, div-eq_of_eq-mul_right, div-add-mod, mul-mod_right}
-use Rattle.std.specs.List.{AllByRecursion as All}
+use Rattle.std.specs.List.{AllByRecursion}
 use Rattle.std.proofs.lemmas.Nat.{le-div, pow-add}
 use Rattle.std.proofs.lemmas.List.Sums.{sum_by-cons}
 use Rattle.std.proofs.lemmas.Bool.{cond_both, cond-false, ltb-true, ltb-false, le-ltb, lt-ltb, cond-true, and_parts, leb-true}
@@ -99,7 +99,7 @@ row_lawful r a =
     omega (arith, z, gain_whole c t p e))
     (λ l k. row_steps_fit r l k a)
 
-rows_lawful : (rs : List Row) → All Ranges rs → Lawful (λ l. sum_by (λ r. row_bound r l) rs) (sum_by row_gain rs) (length rs * 2 ^ 48)
+rows_lawful : (rs : List Row) → AllByRecursion Ranges rs → Lawful (λ l. sum_by (λ r. row_bound r l) rs) (sum_by row_gain rs) (length rs * 2 ^ 48)
 rows_lawful [] a = nothing 0
 rows_lawful (r ∷ rs) a =
     like (λ l. row_bound r l + sum_by (λ x. row_bound x l) rs) (λ l. sum_by (λ x. row_bound x l) (r ∷ rs)) (row_gain r + sum_by row_gain rs) (sum_by row_gain (r ∷ rs)) (2 ^ 48 + length rs * 2 ^ 48) (suc (length rs) * 2 ^ 48)
@@ -148,7 +148,7 @@ pub sound_line_lawful : (x : Line) → sound_line x ≡ true → Lawful (bound_o
 sound_line_lawful x h = line_lawful x (straight_from x h)
 
 -- every component of a list of sheets that have the laws
-pub components_lawful : (ds : List Declaration) → All (λ d. Lawful (bound_of d) (gain_of d) (2 ^ 52)) ds → (k : ℕ) → Lawful (component_bound ds k) (component_gain ds k) (2 ^ 52)
+pub components_lawful : (ds : List Declaration) → AllByRecursion (λ d. Lawful (bound_of d) (gain_of d) (2 ^ 52)) ds → (k : ℕ) → Lawful (component_bound ds k) (component_gain ds k) (2 ^ 52)
 components_lawful [] a k = nothing (2 ^ 52)
 components_lawful (d ∷ ds) a zero = a.0
 components_lawful (d ∷ ds) a (suc k) = components_lawful ds a.1 k

@@ -1,5 +1,5 @@
 use Rattle.std.proofs.Common.{◌≡◌, ℕ, zero, suc, ◌+◌, ◌-◌, ◌*◌, ◌/◌, ◌^◌, ◌<◌, ◌≤◌, Bool, true, false, cond, ◌&&◌, eqb, ltb, leb, List, [], ◌∷◌, length, get_or, drop, is_ok, Some, None, Ok, Err, sum_by, Option, Result, sym, refl, ap, ◌∙◌, ⊎_elim, div-le_self, arith, pow_mono}
-use Rattle.std.specs.List.{AllByRecursion as All}
+use Rattle.std.specs.List.{AllByRecursion}
 use Rattle.std.proofs.lemmas.Bool.{cond-true, cond_both, and_from, and_parts, or_cases, le-leb, eqb-true}
 use Rattle.std.proofs.lemmas.Nat.{mul-le, pow_pos}
 use Rattle.std.proofs.ByRecursion.{All-weaker, sum_by_le}
@@ -119,14 +119,14 @@ ranges_from r h =
     let p = power_from r.period a.0 in
     record { power = p; deadline_low = d.0; deadline_high = omega (arith, d.1, power_most p); budget_high = (range_from 1 4096 r.budget c.0).1; copies_high = (range_from 1 16 r.copies c.1).1 }
 
-fine_all : (last : Option Row) (rs : List Row) → rows_fine last rs ≡ true → All Ranges rs
+fine_all : (last : Option Row) (rs : List Row) → rows_fine last rs ≡ true → AllByRecursion Ranges rs
 fine_all last [] h = tt
 fine_all last (r ∷ rs) h =
     let a = and_parts (row_ranges r && follows last r) (rows_fine (Some r) rs) h in
     (ranges_from r (and_parts (row_ranges r) (follows last r) a.0).0, fine_all (Some r) rs a.1)
 
 -- a sound sheet has one to eight rows, each in its ranges
-pub sound_all : (rs : List Row) → sound_rows rs ≡ true → (1 ≤ length rs) × (length rs ≤ 8) × All Ranges rs
+pub sound_all : (rs : List Row) → sound_rows rs ≡ true → (1 ≤ length rs) × (length rs ≤ 8) × AllByRecursion Ranges rs
 sound_all rs h =
     let e = sym (judged_ok rs (record { index = 0; place = 0 })) ∙ h in
     let a = and_parts (from_to 1 8 (length rs)) (rows_fine None rs) e in
@@ -147,8 +147,8 @@ row_gain_fits : (r : Row) → Ranges r → row_gain r ≤ 2 ^ 48
 row_gain_fits r g =
     omega (arith, div-le_self (r.copies * r.budget * 4096) r.period, mul-le r.copies r.budget 16 4096 g.copies_high g.budget_high)
 
-pub row_bounds_fit : (rs : List Row) (l : ℕ) → l < 2 ^ 32 → All Ranges rs → sum_by (λ r. row_bound r l) rs ≤ length rs * 2 ^ 48
+pub row_bounds_fit : (rs : List Row) (l : ℕ) → l < 2 ^ 32 → AllByRecursion Ranges rs → sum_by (λ r. row_bound r l) rs ≤ length rs * 2 ^ 48
 row_bounds_fit rs l h a = sum_by_le (λ r. row_bound r l) (2 ^ 48) rs (All-weaker Ranges (λ r. row_bound r l ≤ 2 ^ 48) (λ r g. row_bound_fits r l h g) rs a)
 
-pub row_gains_fit : (rs : List Row) → All Ranges rs → sum_by row_gain rs ≤ length rs * 2 ^ 48
+pub row_gains_fit : (rs : List Row) → AllByRecursion Ranges rs → sum_by row_gain rs ≤ length rs * 2 ^ 48
 row_gains_fit rs a = sum_by_le row_gain (2 ^ 48) rs (All-weaker Ranges (λ r. row_gain r ≤ 2 ^ 48) row_gain_fits rs a)

@@ -1,5 +1,5 @@
 use Rattle.std.proofs.Common.{◌≡◌, ℕ, ◌+◌, ◌≤◌, Bool, true, false, cond, ◌&&◌, eqb, ◌⊎◌, List, [], ◌∷◌, ◌++◌, length, sym, refl, ap, ◌∙◌, subst, ⊎_elim, arith}
-use Rattle.std.specs.List.{AllByRecursion as All}
+use Rattle.std.specs.List.{AllByRecursion}
 use Rattle.std.proofs.ByRecursion.{All-weaker}
 use Rattle.std.proofs.lemmas.List.Sums.{sum_by-cons, sum_by-append}
 use Rattle.std.proofs.lemmas.Bool.{cond-true, cond-false, and_parts, and_from, eqb-true, eq-eqb, ne_eqb, cases_Bool}
@@ -66,25 +66,25 @@ by_follow : (t r : Row) (rs : List Row) → alike r t ≡ false → before t r �
 by_follow t r rs a b = cond-false (alike r t) _ _ a ∙ cond-false (before t r) _ _ b
 
 -- a row that stands before all others comes first
-placed_front : (t : Row) (rs : List Row) → All (λ s. before t s ≡ true) rs → Ascending rs → placed t rs ≡ t ∷ rs
+placed_front : (t : Row) (rs : List Row) → AllByRecursion (λ s. before t s ≡ true) rs → Ascending rs → placed t rs ≡ t ∷ rs
 placed_front t [] a h = refl
 placed_front t (r ∷ rs) a h =
     by_lead t r rs (not_alike_back t r a.0) a.0 ∙ ap (λ (l : List Row). t ∷ l) (placed_front r rs h.0 h.1)
 
-before_all : (t r : Row) (rs : List Row) → before t r ≡ true → All (λ s. before r s ≡ true) rs → All (λ s. before t s ≡ true) rs
+before_all : (t r : Row) (rs : List Row) → before t r ≡ true → AllByRecursion (λ s. before r s ≡ true) rs → AllByRecursion (λ s. before t s ≡ true) rs
 before_all t r rs b a = All-weaker (λ s. before r s ≡ true) (λ s. before t s ≡ true) (λ s h. before_through t r s b h) rs a
 
 lead_front : (t r : Row) (rs : List Row) → alike r t ≡ false → before t r ≡ true → Ascending (r ∷ rs) → placed t (r ∷ rs) ≡ t ∷ r ∷ rs
 lead_front t r rs a b h = by_lead t r rs a b ∙ ap (λ (l : List Row). t ∷ l) (placed_front r rs h.0 h.1)
 
 -- what stands before t and before all rows stands before them with t among them
-all_before : (x t : Row) (rs : List Row) → before x t ≡ true → All (λ s. before x s ≡ true) rs → All (λ s. before x s ≡ true) (placed t rs)
+all_before : (x t : Row) (rs : List Row) → before x t ≡ true → AllByRecursion (λ s. before x s ≡ true) rs → AllByRecursion (λ s. before x s ≡ true) (placed t rs)
 all_before x t [] b a = (b, tt)
 all_before x t (r ∷ rs) b a =
     elim (way t r) [
-      | joins p ↦ subst (λ (l : List Row). All (λ s. before x s ≡ true) l) (sym (by_join t r rs p)) (a.0, a.1)
-      | leads p q ↦ subst (λ (l : List Row). All (λ s. before x s ≡ true) l) (sym (by_lead t r rs p q)) (b, all_before x r rs a.0 a.1)
-      | follows p q n ↦ subst (λ (l : List Row). All (λ s. before x s ≡ true) l) (sym (by_follow t r rs p n)) (a.0, all_before x t rs b a.1)
+      | joins p ↦ subst (λ (l : List Row). AllByRecursion (λ s. before x s ≡ true) l) (sym (by_join t r rs p)) (a.0, a.1)
+      | leads p q ↦ subst (λ (l : List Row). AllByRecursion (λ s. before x s ≡ true) l) (sym (by_lead t r rs p q)) (b, all_before x r rs a.0 a.1)
+      | follows p q n ↦ subst (λ (l : List Row). AllByRecursion (λ s. before x s ≡ true) l) (sym (by_follow t r rs p n)) (a.0, all_before x t rs b a.1)
     ]
 
 pub placed_ascending : (t : Row) (rs : List Row) → Ascending rs → Ascending (placed t rs)
@@ -117,17 +117,17 @@ placed_copies k t (r ∷ rs) =
     ]
 
 -- what holds of every row and of t holds with t among them, if it holds of a row that t joins
-pub placed_all : (P : Row → Type 0) (t : Row) (rs : List Row) → Ascending rs → P t → All (λ r. P r × (alike r t ≡ true → P (joined_copies r t))) rs → All P (placed t rs)
+pub placed_all : (P : Row → Type 0) (t : Row) (rs : List Row) → Ascending rs → P t → AllByRecursion (λ r. P r × (alike r t ≡ true → P (joined_copies r t))) rs → AllByRecursion P (placed t rs)
 placed_all P t [] h p a = (p, tt)
 placed_all P t (r ∷ rs) h p a =
     elim (way t r) [
-      | joins q ↦ subst (All P) (sym (by_join t r rs q)) (a.0.1 q, All-weaker (λ s. P s × (alike s t ≡ true → P (joined_copies s t))) P (λ s x. x.0) rs a.1)
-      | leads q b ↦ subst (All P) (sym (lead_front t r rs q b h)) (p, (a.0.0, All-weaker (λ s. P s × (alike s t ≡ true → P (joined_copies s t))) P (λ s x. x.0) rs a.1))
-      | follows q b n ↦ subst (All P) (sym (by_follow t r rs q n)) (a.0.0, placed_all P t rs h.1 p a.1)
+      | joins q ↦ subst (AllByRecursion P) (sym (by_join t r rs q)) (a.0.1 q, All-weaker (λ s. P s × (alike s t ≡ true → P (joined_copies s t))) P (λ s x. x.0) rs a.1)
+      | leads q b ↦ subst (AllByRecursion P) (sym (lead_front t r rs q b h)) (p, (a.0.0, All-weaker (λ s. P s × (alike s t ≡ true → P (joined_copies s t))) P (λ s x. x.0) rs a.1))
+      | follows q b n ↦ subst (AllByRecursion P) (sym (by_follow t r rs q n)) (a.0.0, placed_all P t rs h.1 p a.1)
     ]
 
 -- no row like t has more copies than all of them together
-pub copies_most : (t : Row) (rs : List Row) → All (λ r. alike r t ≡ true → r.copies ≤ copies_of t rs) rs
+pub copies_most : (t : Row) (rs : List Row) → AllByRecursion (λ r. alike r t ≡ true → r.copies ≤ copies_of t rs) rs
 copies_most t [] = tt
 copies_most t (r ∷ rs) = (
   (λ a. omega (arith, copies_cons t r rs, cond-true {A = ℕ} (alike t r) r.copies 0 (alike_swap r t a))),
@@ -135,11 +135,11 @@ copies_most t (r ∷ rs) = (
 )
 
 -- a row is new exactly where none like it has copies
-none_alike : (t : Row) (rs : List Row) → All (λ s. before t s ≡ true) rs → copies_of t rs ≡ 0
+none_alike : (t : Row) (rs : List Row) → AllByRecursion (λ s. before t s ≡ true) rs → copies_of t rs ≡ 0
 none_alike t [] a = refl
 none_alike t (r ∷ rs) a = omega (arith, copies_cons t r rs, cond-false {A = ℕ} (alike t r) r.copies 0 (not_alike t r a.0), none_alike t rs a.1)
 
-pub placed_length : (t : Row) (rs : List Row) → Ascending rs → All (λ r. 1 ≤ r.copies) rs → length (placed t rs) ≡ length rs + cond (eqb (copies_of t rs) 0) 1 0
+pub placed_length : (t : Row) (rs : List Row) → Ascending rs → AllByRecursion (λ r. 1 ≤ r.copies) rs → length (placed t rs) ≡ length rs + cond (eqb (copies_of t rs) 0) 1 0
 placed_length t [] h a = refl
 placed_length t (r ∷ rs) h a =
     elim (way t r) [
@@ -171,17 +171,17 @@ grouped_more ks rs t e g =
     }
 
 -- there is only one way to group
-behind_none : (t r : Row) (rs : List Row) → before t r ≡ true → All (λ s. before r s ≡ true) rs → copies_of t (r ∷ rs) ≡ 0
+behind_none : (t r : Row) (rs : List Row) → before t r ≡ true → AllByRecursion (λ s. before r s ≡ true) rs → copies_of t (r ∷ rs) ≡ 0
 behind_none t r rs b a = none_alike t (r ∷ rs) (b, before_all t r rs b a)
 
-own_copies : (r : Row) (rs : List Row) → All (λ s. before r s ≡ true) rs → copies_of r (r ∷ rs) ≡ r.copies
+own_copies : (r : Row) (rs : List Row) → AllByRecursion (λ s. before r s ≡ true) rs → copies_of r (r ∷ rs) ≡ r.copies
 own_copies r rs a =
     omega (arith, copies_cons r r rs, none_alike r rs a, cond-true {A = ℕ} (alike r r) r.copies 0 (and_from _ _ (eq-eqb r.period r.period refl) (and_from _ _ (eq-eqb r.deadline r.deadline refl) (eq-eqb r.budget r.budget refl))))
 
 pub same_row : (r s : Row) → r.period ≡ s.period → r.deadline ≡ s.deadline → r.budget ≡ s.budget → r.copies ≡ s.copies → r ≡ s
 same_row r s p q u v = same_four r.period s.period r.deadline s.deadline r.budget s.budget r.copies s.copies p q u v
 
-before_like : (s r : Row) (ss : List Row) → alike s r ≡ true → All (λ x. before s x ≡ true) ss → All (λ x. before r x ≡ true) ss
+before_like : (s r : Row) (ss : List Row) → alike s r ≡ true → AllByRecursion (λ x. before s x ≡ true) ss → AllByRecursion (λ x. before r x ≡ true) ss
 before_like s r ss p a = All-weaker (λ x. before s x ≡ true) (λ x. before r x ≡ true) (λ x h. like_before s r x p h) ss a
 
 head_same : (r s : Row) (rs ss : List Row) → Ascending (r ∷ rs) → Ascending (s ∷ ss) → 1 ≤ r.copies → 1 ≤ s.copies → ((k : Row) → copies_of k (r ∷ rs) ≡ copies_of k (s ∷ ss)) → r ≡ s
@@ -195,7 +195,7 @@ head_same r s rs ss a b m n e =
       | follows p q z ↦ absurd (omega (arith, behind_none s r rs q a.0, own_copies s ss b.0, e s))
     ]
 
-pub one_grouping : (rs ss : List Row) → Ascending rs → Ascending ss → All (λ r. 1 ≤ r.copies) rs → All (λ r. 1 ≤ r.copies) ss → ((k : Row) → copies_of k rs ≡ copies_of k ss) → rs ≡ ss
+pub one_grouping : (rs ss : List Row) → Ascending rs → Ascending ss → AllByRecursion (λ r. 1 ≤ r.copies) rs → AllByRecursion (λ r. 1 ≤ r.copies) ss → ((k : Row) → copies_of k rs ≡ copies_of k ss) → rs ≡ ss
 one_grouping [] [] a b m n e = refl
 one_grouping [] (s ∷ ss) a b m n e = absurd (omega (arith, e s, own_copies s ss b.0, n.0))
 one_grouping (r ∷ rs) [] a b m n e = absurd (omega (arith, e r, own_copies r rs a.0, m.0))

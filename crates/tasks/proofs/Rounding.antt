@@ -1,7 +1,7 @@
 use Rattle.std.proofs.Common.{◌≡◌, ℕ, zero, suc, ◌+◌, ◌*◌, ◌^◌, ◌<◌, ◌≤◌, true, false, cond, ◌&&◌, eqb, leb, List, [], ◌∷◌, Some, Option, sym, refl, ap, ◌∙◌, ⊎_elim, add-one, arith, pow_mono}
 use Rattle.std.proofs.lemmas.Nat.{pow_pos, pow-add}
 use Rattle.std.proofs.lemmas.Bool.{cond_both, cond-true, cond-false, and_parts, and_from, or_left, or_right, or_cases, eq-eqb, eqb-true, le-leb, leb-false, lt-leb, cases_Bool}
-use Rattle.std.specs.List.{AllByRecursion as All}
+use Rattle.std.specs.List.{AllByRecursion}
 use Rattle.sheets.specs.declared.row.Row.{Row}
 use Rattle.tasks.specs.declared.task.Task.{Task}
 use Rattle.demand.specs.Fields.{from_to}
@@ -63,7 +63,7 @@ rounded_ranges t h =
     (and_from _ _ (in_range 1 4096 (power_above 12 t.budget) c.0 c.1) refl))
 
 -- rows in their ranges and in sheet order are sound
-pub fine_from : (last : Option Row) (rs : List Row) → All (λ r. row_ranges r ≡ true) rs → All (λ r. follows last r ≡ true) rs → Ascending rs → rows_fine last rs ≡ true
+pub fine_from : (last : Option Row) (rs : List Row) → AllByRecursion (λ r. row_ranges r ≡ true) rs → AllByRecursion (λ r. follows last r ≡ true) rs → Ascending rs → rows_fine last rs ≡ true
 fine_from last [] a f h = refl
 fine_from last (r ∷ rs) a f h =
     and_from _ _ (and_from (row_ranges r) (follows last r) a.0 f.0) (fine_from (Some r) rs a.1 h.0 h.1)

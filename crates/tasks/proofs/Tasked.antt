@@ -1,5 +1,5 @@
 use Rattle.std.proofs.Common.{◌≡◌, ℕ, zero, suc, ◌+◌, ◌-◌, ◌<◌, ◌≤◌, Bool, true, false, cond, not, ◌&&◌, ◌||◌, eqb, ltb, leb, ◌⊎◌, List, [], ◌∷◌, ◌++◌, length, get_or, take, Some, None, Ok, Option, sym, refl, ap, ◌∙◌, subst, ⊎_elim, arith}
-use Rattle.std.specs.List.{AllByRecursion as All}
+use Rattle.std.specs.List.{AllByRecursion}
 use Rattle.std.proofs.ByRecursion.{All-weaker}
 use Rattle.std.proofs.lemmas.List.{take_more, take_all}
 use Rattle.std.proofs.lemmas.List.Sums.{sum_by-append, sum_by-cons}
@@ -63,7 +63,7 @@ pub record Filled (ks : List Row) (i : ℕ) (rs : List Row) : Type 0 where
   pub grouped : Grouped (take i ks) rs
   pub sized : length rs ≡ different ks i
   pub few : length rs ≤ 8
-  pub ranged : All (λ r. row_ranges r ≡ true) rs
+  pub ranged : AllByRecursion (λ r. row_ranges r ≡ true) rs
 
 alike_self : (r : Row) → alike r r ≡ true
 alike_self r = and_from _ _ (eq-eqb r.period r.period refl) (and_from _ _ (eq-eqb r.deadline r.deadline refl) (eq-eqb r.budget r.budget refl))
@@ -77,7 +77,7 @@ room_math m l h = grind (arith, nat_tests)
 fits_math : (m l : ℕ) → l ≤ 8 → (leb 16 m || (eqb m 0 && leb 8 l)) ≡ false → (l + cond (eqb m 0) 1 0 ≤ 8) × (m ≤ 15)
 fits_math m l h e = (grind (arith, nat_tests), grind (arith, nat_tests))
 
-all_both : (P Q : Row → Type 0) (rs : List Row) → All P rs → All Q rs → All (λ r. P r × Q r) rs
+all_both : (P Q : Row → Type 0) (rs : List Row) → AllByRecursion P rs → AllByRecursion Q rs → AllByRecursion (λ r. P r × Q r) rs
 all_both P Q [] p q = tt
 all_both P Q (r ∷ rs) p q = ((p.0, q.0), all_both P Q rs p.1 q.1)
 
@@ -109,7 +109,7 @@ module _ (ks : List Row) (i : ℕ) (rs : List Row) (t : Row) (f : Filled ks i rs
     filled_more =
         let g = f.grouped in
         let fit = (fits_math (copies_of t rs) (length rs) f.few room).1 in
-        let together : All (λ r. (row_ranges r ≡ true) × ((1 ≤ r.copies) × (alike r t ≡ true → r.copies ≤ copies_of t rs))) rs = all_both (λ r. row_ranges r ≡ true) (λ r. (1 ≤ r.copies) × (alike r t ≡ true → r.copies ≤ copies_of t rs)) rs f.ranged (all_both (λ r. 1 ≤ r.copies) (λ r. alike r t ≡ true → r.copies ≤ copies_of t rs) rs g.present (copies_most t rs)) in
+        let together : AllByRecursion (λ r. (row_ranges r ≡ true) × ((1 ≤ r.copies) × (alike r t ≡ true → r.copies ≤ copies_of t rs))) rs = all_both (λ r. row_ranges r ≡ true) (λ r. (1 ≤ r.copies) × (alike r t ≡ true → r.copies ≤ copies_of t rs)) rs f.ranged (all_both (λ r. 1 ≤ r.copies) (λ r. alike r t ≡ true → r.copies ≤ copies_of t rs) rs g.present (copies_most t rs)) in
         record {
           grouped = subst (λ (l : List Row). Grouped l (placed t rs)) (sym front) (grouped_more (take i ks) rs t one g);
           sized = placed_length t rs g.ordered g.present ∙ sym more_different;
@@ -125,7 +125,7 @@ grouped_some [] rs h g = absurd (omega arith)
 grouped_some (k ∷ ks) [] h g = absurd (omega (arith, g.counted k, sum_by-cons (λ s. cond (alike k s) 1 0) k ks, cond-true {A = ℕ} (alike k k) 1 0 (alike_self k)))
 grouped_some (k ∷ ks) (r ∷ rs) h g = omega arith
 
-all_follow : (rs : List Row) → All (λ r. follows None r ≡ true) rs
+all_follow : (rs : List Row) → AllByRecursion (λ r. follows None r ≡ true) rs
 all_follow [] = tt
 all_follow (r ∷ rs) = (refl, all_follow rs)
 

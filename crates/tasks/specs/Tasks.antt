@@ -1,5 +1,5 @@
 use Rattle.std.specs.Prelude.{◌≡◌, ℕ, zero, suc, ◌+◌, ◌^◌, ◌≤◌, Bool, true, cond, not, ◌&&◌, ◌||◌, List, [], ◌∷◌, map, length, take, Some, None, Ok, Err, sum_by, count_by, Option, Result, ◌==◌, nat_le, nat_lt, slice_index_or}
-use Rattle.std.specs.List.{AllByRecursion as All}
+use Rattle.std.specs.List.{AllByRecursion}
 use Rattle.sheets.specs.declared.row.Row.{Row}
 use Rattle.tasks.specs.declared.task.Task.{Task}
 use Rattle.tasks.specs.declared.task.MakeRefusal.{MakeRefusal}
@@ -45,12 +45,12 @@ copies_of r rs = sum_by (λ s. cond (alike r s) s.copies 0) rs
 -- strictly in sheet order: each row stands before all that follow
 abbrev pub Ascending : List Row → Type 0
 Ascending [] = Unit {0}
-Ascending (r ∷ rs) = All (λ s. before r s ≡ true) rs × Ascending rs
+Ascending (r ∷ rs) = AllByRecursion (λ s. before r s ≡ true) rs × Ascending rs
 
 -- rs are the rounded tasks ks, grouped and counted, in sheet order
 pub record Grouped (ks rs : List Row) : Type 0 where
   pub ordered : Ascending rs
-  pub present : All (λ r. 1 ≤ r.copies) rs
+  pub present : AllByRecursion (λ r. 1 ≤ r.copies) rs
   pub counted : (k : Row) → copies_of k rs ≡ how_many k ks
 
 -- stands behind the end of a list, and is never asked for
