@@ -2,15 +2,13 @@
 -- counted, and the first of the ready ones found.
 use Rattle.std.proofs.Common.{◌≡◌, ℕ, zero, suc, ◌+◌, ◌<◌, ◌≤◌, ◌⊎◌, Some, None, Option, sym, refl, ◌∙◌, subst, inl, inr, ⊎_elim, not-suc-le-zero, arith}
 use Rattle.std.proofs.lemmas.Bool.{cases_lt}
-use Rattle.scheduler.specs.declared.calls.Call.{Call}
-use Rattle.scheduler.specs.declared.calls.CallRefusal.{CallRefusal}
-use Rattle.scheduler.specs.declared.calls.Event.{Event}
-use Rattle.scheduler.specs.History.{History, Job, Fate, clock, count, job, units, fate, Open, Cuts, Live, Counts, load}
-use Rattle.scheduler.specs.declared.calls.Call.TheVariants.{Arrive, Finish, Tick}
-use Rattle.scheduler.specs.declared.calls.Event.TheVariants.{Arrived, Finished, Ticked, Refused}
+use Rattle.scheduler.specs.History.{Call, Event, History, Job, Fate, clock, count, job, units, fate, Open, Cuts, Live, Counts, load}
+use Rattle.scheduler.specs.History.Call.{arrive, finish, tick}
+use Rattle.scheduler.specs.History.Event.{arrived, finished, ticked, refused}
 use Rattle.scheduler.specs.History.Fate.{pending, done, cut}
 use Rattle.scheduler.specs.Windows.{Free, Ready, Held}
-use Rattle.scheduler.specs.Rules.{Plan, GoesBefore, RunsFirst, refusal_of, call_of, Answers}
+use Rattle.scheduler.specs.Order.{Precedes}
+use Rattle.scheduler.specs.Rules.{Plan, RunsFirst, refusal_of, call_of, Answers}
 use Rattle.scheduler.proofs.Loads.{horizon, due_before, load_past, done_pending, cut_pending}
 use Rattle.scheduler.proofs.Windows.{free_or_full}
 
@@ -40,7 +38,7 @@ counted P test (suc n) = with_one (test n) (counted P test n)
     with_one (inr never) b = (b.0, inr (never, b.1))
 
 -- which of two jobs goes first
-pub chain : (job_at : ℕ → Job) (n m k : ℕ) → GoesBefore job_at n m → GoesBefore job_at m k → GoesBefore job_at n k
+pub chain : (job_at : ℕ → Job) (n m k : ℕ) → Precedes job_at n m → Precedes job_at m k → Precedes job_at n k
 chain job_at n m k (inl a) (inl b) = inl (omega arith)
 chain job_at n m k (inl a) (inr b) = inl (omega (arith, b.0))
 chain job_at n m k (inr a) (inl b) = inl (omega (arith, a.0))
@@ -58,15 +56,15 @@ compared m n =
     (λ (ge : n ≤ m). inr (⊎_elim (λ (g : n < m). inr g) (λ (le : m ≤ n). inl (omega arith)) (cases_lt n m)))
     (cases_lt m n)
 
-either_first : (job_at : ℕ → Job) (n m : ℕ) → n < m → GoesBefore job_at n m ⊎ GoesBefore job_at m n
+either_first : (job_at : ℕ → Job) (n m : ℕ) → n < m → Precedes job_at n m ⊎ Precedes job_at m n
 either_first job_at n m l = by_due (compared (job_at n).due (job_at m).due)
   where
-    by_component : (job_at n).due ≡ (job_at m).due → Compared (job_at n).component (job_at m).component → GoesBefore job_at n m ⊎ GoesBefore job_at m n
+    by_component : (job_at n).due ≡ (job_at m).due → Compared (job_at n).component (job_at m).component → Precedes job_at n m ⊎ Precedes job_at m n
     by_component e (inl a) = inl (inr (e, inl a))
     by_component e (inr (inl c)) = inl (inr (e, inr (c, l)))
     by_component e (inr (inr b)) = inr (inr (sym e, inl b))
 
-    by_due : Compared (job_at n).due (job_at m).due → GoesBefore job_at n m ⊎ GoesBefore job_at m n
+    by_due : Compared (job_at n).due (job_at m).due → Precedes job_at n m ⊎ Precedes job_at m n
     by_due (inl a) = inl (inl a)
     by_due (inr (inl e)) = by_component e (compared (job_at n).component (job_at m).component)
     by_due (inr (inr b)) = inr (inl b)
@@ -74,7 +72,7 @@ either_first job_at n m l = by_due (compared (job_at n).due (job_at m).due)
 -- the first of the jobs below n that have P, or none of them has it
 module _ (h : History) (P : ℕ → Type 0) (test : (n : ℕ) → Decided (P n)) where
   abbrev NotAfter : ℕ → ℕ → Type 0
-  NotAfter f m = (f ≡ m) ⊎ GoesBefore (job h) f m
+  NotAfter f m = (f ≡ m) ⊎ Precedes (job h) f m
 
   abbrev First : ℕ → ℕ → Type 0
   First n f = (f < n) × P f × ((m : ℕ) → m < n → P m → NotAfter f m)
@@ -90,10 +88,10 @@ module _ (h : History) (P : ℕ → Type 0) (test : (n : ℕ) → Decided (P n))
       last_or Q old new m l =
           ⊎_elim (λ (lt : m < n). old m lt) (λ (ge : n ≤ m). let e : n ≡ m = omega arith in subst (λ i. P i → Q i) e new) (cases_lt m n)
 
-      challenged : P n → (f : ℕ) → First n f → GoesBefore (job h) f n ⊎ GoesBefore (job h) n f → (g : ℕ) × First (suc n) g
+      challenged : P n → (f : ℕ) → First n f → Precedes (job h) f n ⊎ Precedes (job h) n f → (g : ℕ) × First (suc n) g
       challenged here f w (inl b) = (f, (omega (arith, w.0), w.1, last_or (NotAfter f) w.2 (λ p. inr b)))
       challenged here f w (inr b) =
-          let after : (m : ℕ) → NotAfter f m → NotAfter n m = λ m q. inr (⊎_elim (λ (e : f ≡ m). subst (GoesBefore (job h) n) e b) (chain (job h) n f m b) q) in
+          let after : (m : ℕ) → NotAfter f m → NotAfter n m = λ m q. inr (⊎_elim (λ (e : f ≡ m). subst (Precedes (job h) n) e b) (chain (job h) n f m b) q) in
           (n, (omega arith, here, last_or (NotAfter n) (λ m l q. after m (w.2 m l q)) (λ p. inl refl)))
 
       with_one : Decided (P n) → ((f : ℕ) × First n f) ⊎ NoneOf n → ((f : ℕ) × First (suc n) f) ⊎ NoneOf (suc n)
@@ -102,7 +100,7 @@ module _ (h : History) (P : ℕ → Type 0) (test : (n : ℕ) → Decided (P n))
       with_one (inr never) (inl w) = inl (w.0, (omega (arith, w.1.0), w.1.1, last_or (NotAfter w.0) w.1.2 (λ p. absurd (never p))))
       with_one (inr never) (inr none) = inr (last_or (λ m. ⊥) none never)
 
-none_or : (o : Option CallRefusal) → (o ≡ None) ⊎ ((why : CallRefusal) × (o ≡ Some why))
+none_or : (o : Option ℕ) → (o ≡ None) ⊎ ((why : ℕ) × (o ≡ Some why))
 none_or None = inl refl
 none_or (Some why) = inr (why, refl)
 
@@ -134,18 +132,18 @@ module _ (p : Plan) (climbs : (k l m : ℕ) → l ≤ m → p.bound k l ≤ p.bo
   held_decided : (n : ℕ) → Decided (Held p.bound h n)
   held_decided n = ⊎_elim (λ live. (ready_or_held n live).1) (λ never. inr (λ held. never held.0)) (live_decided n)
 
-  runs : (ran : Option ℕ) × RunsFirst (job h) (Ready p.bound h) ran
+  runs : (ran : Option ℕ) × RunsFirst p h ran
   runs =
       ⊎_elim (λ w. (Some w.0, (w.1.1, λ m r. w.1.2 m r.0.0.0 r))) (λ none. (None, λ m r. none m r.0.0.0 r))
       (first_of h (Ready p.bound h) ready_decided (count h))
 
   answered : (c : Call) → refusal_of p h c ≡ None → (e : Event) × (call_of e ≡ c) × Answers p e h
-  answered (Arrive k d) n = (Arrived k d (count h), refl, (n, refl))
-  answered (Finish m) n = (Finished m (units h m), refl, (n, refl))
-  answered Tick n =
+  answered (arrive k d) n = (arrived k d (count h), refl, (n, refl))
+  answered (finish m) n = (finished m (units h m), refl, (n, refl))
+  answered tick n =
       let held = counted (Held p.bound h) held_decided (count h) in
       let cuts = counted (Cuts h) cuts_decided (count h) in
-      (Ticked runs.0 held.0 cuts.0, refl, (n, runs.1, held.1, cuts.1))
+      (ticked runs.0 held.0 cuts.0, refl, (n, runs.1, held.1, cuts.1))
 
   pub an_answer : (c : Call) → (e : Event) × (call_of e ≡ c) × Answers p e h
-  an_answer c = ⊎_elim (answered c) (λ w. (Refused c w.0, refl, w.1)) (none_or (refusal_of p h c))
+  an_answer c = ⊎_elim (answered c) (λ w. (refused c w.0, refl, w.1)) (none_or (refusal_of p h c))

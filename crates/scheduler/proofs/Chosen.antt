@@ -5,7 +5,7 @@ use Rattle.scheduler.specs.declared.job.Job.{Job as Entry}
 use Rattle.scheduler.specs.History.{Job, Counts}
 use Rattle.scheduler.specs.Table.{at, job_in}
 use Rattle.scheduler.specs.Policing.{overtakes, first_of_two}
-use Rattle.scheduler.specs.Rules.{GoesBefore, RunsFirst}
+use Rattle.scheduler.specs.Order.{Precedes, FirstOf}
 use Rattle.scheduler.proofs.Answering.{chain}
 
 -- of the numbers below n
@@ -13,7 +13,7 @@ abbrev pub Below : (ℕ → Type 0) → ℕ → ℕ → Type 0
 Below P n m = (m < n) × P m
 
 module _ (js : List Entry) where
-  overtakes_so : (n i : ℕ) → overtakes (at js n) (at js i) ≡ true → GoesBefore (job_in js) n i
+  overtakes_so : (n i : ℕ) → overtakes (at js n) (at js i) ≡ true → Precedes (job_in js) n i
   overtakes_so n i t =
       ⊎_elim (λ (a : ltb (at js n).due (at js i).due ≡ true). inl (ltb-true _ _ a))
       (λ (b : (eqb (at js n).due (at js i).due && ltb (at js n).component (at js i).component) ≡ true).
@@ -21,7 +21,7 @@ module _ (js : List Entry) where
       inr (eqb-true (at js n).due (at js i).due p.0, inl (ltb-true _ _ p.1)))
       (or_cases (ltb (at js n).due (at js i).due) (eqb (at js n).due (at js i).due && ltb (at js n).component (at js i).component) t)
 
-  not_overtaken : (n i : ℕ) → i < n → overtakes (at js n) (at js i) ≡ false → GoesBefore (job_in js) i n
+  not_overtaken : (n i : ℕ) → i < n → overtakes (at js n) (at js i) ≡ false → Precedes (job_in js) i n
   not_overtaken n i l f =
       let p = or_parts (ltb (at js n).due (at js i).due) (eqb (at js n).due (at js i).due && ltb (at js n).component (at js i).component) f in
       let no_later : (at js i).due ≤ (at js n).due = ltb-false _ _ p.0 in
@@ -44,33 +44,33 @@ module _ (job_at : ℕ → Job) (P : ℕ → Type 0) where
   earlier : (n m : ℕ) → (P n → ⊥) → Below P (n + 1) m → Below P n m
   earlier n m never q = ⊎_elim (λ (e : m ≡ n). absurd (never (subst P e q.1))) (λ (ne : m ≡ n → ⊥). (omega (arith, q.0), q.1)) (cases_eq m n)
 
-  pub first_kept : (n : ℕ) → (P n → ⊥) → (o : Option ℕ) → RunsFirst job_at (Below P n) o → RunsFirst job_at (Below P (n + 1)) o
+  pub first_kept : (n : ℕ) → (P n → ⊥) → (o : Option ℕ) → FirstOf job_at (Below P n) o → FirstOf job_at (Below P (n + 1)) o
   first_kept n never None none = λ m q. none m (earlier n m never q)
   first_kept n never (Some f) found = ((omega (arith, found.0.0), found.0.1), λ m q. found.1 m (earlier n m never q))
 
-  pub first_all : (n : ℕ) → ((m : ℕ) → P m → m < n) → (o : Option ℕ) → RunsFirst job_at (Below P n) o → RunsFirst job_at P o
+  pub first_all : (n : ℕ) → ((m : ℕ) → P m → m < n) → (o : Option ℕ) → FirstOf job_at (Below P n) o → FirstOf job_at P o
   first_all n below None none = λ m p. none m (below m p, p)
   first_all n below (Some f) found = (found.0.1, λ m p. found.1 m (below m p, p))
 
-pub first_found : (js : List Entry) (P : ℕ → Type 0) (n : ℕ) → P n → (o : Option ℕ) → RunsFirst (job_in js) (Below P n) o → RunsFirst (job_in js) (Below P (n + 1)) (first_of_two js o n)
+pub first_found : (js : List Entry) (P : ℕ → Type 0) (n : ℕ) → P n → (o : Option ℕ) → FirstOf (job_in js) (Below P n) o → FirstOf (job_in js) (Below P (n + 1)) (first_of_two js o n)
 first_found js P n here None none =
     ((omega arith, here), λ m q. ⊎_elim (λ (e : n ≡ m). inl e) (λ (ne : n ≡ m → ⊥). absurd (none m (omega (arith, q.0), q.1))) (cases_eq n m))
 first_found js P n here (Some f) found = by_test (cases_Bool (overtakes (at js n) (at js f)))
   where
     Goal : Option ℕ → Type 0
-    Goal o = RunsFirst (job_in js) (Below P (n + 1)) o
+    Goal o = FirstOf (job_in js) (Below P (n + 1)) o
 
     old_or_new : (Q : ℕ → Type 0) → ((m : ℕ) → Below P n m → Q m) → Q n → (m : ℕ) → Below P (n + 1) m → Q m
     old_or_new Q old new m q = ⊎_elim (λ (e : n ≡ m). subst Q e new) (λ (ne : n ≡ m → ⊥). old m (omega (arith, q.0), q.1)) (cases_eq n m)
 
-    after : GoesBefore (job_in js) n f → (m : ℕ) → (f ≡ m) ⊎ GoesBefore (job_in js) f m → (n ≡ m) ⊎ GoesBefore (job_in js) n m
-    after b m q = inr (⊎_elim (λ (e : f ≡ m). subst (GoesBefore (job_in js) n) e b) (chain (job_in js) n f m b) q)
+    after : Precedes (job_in js) n f → (m : ℕ) → (f ≡ m) ⊎ Precedes (job_in js) f m → (n ≡ m) ⊎ Precedes (job_in js) n m
+    after b m q = inr (⊎_elim (λ (e : f ≡ m). subst (Precedes (job_in js) n) e b) (chain (job_in js) n f m b) q)
 
-    newer : GoesBefore (job_in js) n f → Goal (Some n)
-    newer b = ((omega arith, here), old_or_new (λ m. (n ≡ m) ⊎ GoesBefore (job_in js) n m) (λ m q. after b m (found.1 m q)) (inl refl))
+    newer : Precedes (job_in js) n f → Goal (Some n)
+    newer b = ((omega arith, here), old_or_new (λ m. (n ≡ m) ⊎ Precedes (job_in js) n m) (λ m q. after b m (found.1 m q)) (inl refl))
 
-    older : GoesBefore (job_in js) f n → Goal (Some f)
-    older b = ((omega (arith, found.0.0), found.0.1), old_or_new (λ m. (f ≡ m) ⊎ GoesBefore (job_in js) f m) found.1 (inr b))
+    older : Precedes (job_in js) f n → Goal (Some f)
+    older b = ((omega (arith, found.0.0), found.0.1), old_or_new (λ m. (f ≡ m) ⊎ Precedes (job_in js) f m) found.1 (inr b))
 
     by_test : (overtakes (at js n) (at js f) ≡ true) ⊎ (overtakes (at js n) (at js f) ≡ false) → Goal (first_of_two js (Some f) n)
     by_test (inl t) = subst (λ b. Goal (cond b (Some n) (Some f))) (sym t) (newer (overtakes_so js n f t))

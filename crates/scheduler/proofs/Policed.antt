@@ -1,10 +1,10 @@
 -- The starts of spent windows decide which open jobs are held.
-use Rattle.std.proofs.Common.{◌≡◌, ℕ, zero, suc, ◌+◌, ◌-◌, ◌<◌, ◌≤◌, Bool, true, false, cond, eqb, leb, ◌⊎◌, List, length, get_or, Some, None, Option, sym, refl, ap, subst, ⊎_elim, arith}
+use Rattle.std.proofs.Common.{◌≡◌, ℕ, zero, suc, ◌+◌, ◌-◌, ◌<◌, ◌≤◌, Bool, true, false, cond, eqb, leb, List, length, get_or, Some, None, Option, sym, refl, ap, subst, ⊎_elim, arith}
 use Rattle.std.proofs.lemmas.Bool.{cases_lt, and_parts, and_from, eqb-true, leb-true, eq-eqb, le-leb}
 use Rattle.demand.specs.Admission.{total}
 use Rattle.scheduler.specs.declared.job.Job.{Job as Entry}
-use Rattle.scheduler.specs.History.{inside, Lies, load_over}
-use Rattle.scheduler.specs.Table.{at, job_in, used_in, table_load, OpenIn, FreeIn, Ascending}
+use Rattle.scheduler.specs.History.{inside, Lies}
+use Rattle.scheduler.specs.Table.{at, job_in, used_in, load_over, table_load, OpenIn, FreeIn, Ascending}
 use Rattle.scheduler.specs.Policing.{due_by, used_below, SpentFrom, LeastOf, Starts, Between}
 use Rattle.scheduler.proofs.Jobwise.{least, greatest, share_more}
 use Rattle.scheduler.proofs.Loads.{inside_true, inside_from}

@@ -1,7 +1,9 @@
 pub mod History
 pub mod Needs
 pub mod Numbers
+pub mod Order
 pub mod Policing
+pub mod Reasons
 pub mod Recording
 pub mod Records
 pub mod Rules

@@ -13,7 +13,9 @@ use Rattle.scheduler.specs.declared.job.JobStatus.{JobStatus}
 use Rattle.scheduler.specs.declared.job.JobStatus.TheVariants as status
 use Rattle.scheduler.specs.History.{History, Fate, clock, count, job, units, fate, Counts}
 use Rattle.scheduler.specs.History.Fate.{pending, done, cut}
-use Rattle.scheduler.specs.Rules.{Plan, tick_refusal, RunsFirst, Follows}
+use Rattle.scheduler.specs.Order.{FirstOf}
+use Rattle.scheduler.specs.Reasons.{tick_reason}
+use Rattle.scheduler.specs.Rules.{Plan, Follows}
 use Rattle.scheduler.specs.Table.{at, job_in, ReadyIn, HeldIn}
 use Rattle.scheduler.specs.Steps.{ended, cut_due, DueIn, with_unit, born}
 
@@ -35,12 +37,12 @@ finish_leaves js n (Err e) = js
 pub record Ticks (bound : ℕ → ℕ → ℕ) (now : ℕ) (js : List Entry) (x : Ticked) (after : List Entry) : Type 0 where
   pub cut_counted : Counts (DueIn now js) (length js) x.cut
   pub held_counted : Counts (HeldIn bound (cut_due now js)) (length (cut_due now js)) x.held
-  pub first_ran : RunsFirst (job_in (cut_due now js)) (ReadyIn bound (cut_due now js)) x.ran
+  pub first_ran : FirstOf (job_in (cut_due now js)) (ReadyIn bound (cut_due now js)) x.ran
   pub one_unit_more : after ≡ with_unit x.ran (cut_due now js)
 
 abbrev pub TickAnswer : (ℕ → ℕ → ℕ) → (ℕ × ℕ) → ℕ → List Entry → Result Ticked CallRefusal → List Entry → Type 0
-TickAnswer bound verdict now js (Ok x) after = (tick_refusal (is_admitted verdict) now ≡ None) × Ticks bound now js x after
-TickAnswer bound verdict now js (Err e) after = (tick_refusal (is_admitted verdict) now ≡ Some e) × (after ≡ js)
+TickAnswer bound verdict now js (Ok x) after = (tick_reason (is_admitted verdict) now ≡ None) × Ticks bound now js x after
+TickAnswer bound verdict now js (Err e) after = (tick_reason (is_admitted verdict) now ≡ Some e) × (after ≡ js)
 
 -- an accepted tick raises the clock, also when nothing ran
 abbrev pub clock_after : ℕ → Result Ticked CallRefusal → ℕ

@@ -9,7 +9,8 @@ use Rattle.scheduler.specs.declared.calls.Ticked.{Ticked}
 use Rattle.scheduler.specs.declared.job.Job.{Job as Entry}
 use Rattle.scheduler.specs.declared.scheduler.Scheduler.{Scheduler}
 use Rattle.scheduler.specs.History.{History}
-use Rattle.scheduler.specs.Rules.{plan_of, arrive_refusal, finish_refusal, tick_refusal, Certified}
+use Rattle.scheduler.specs.Reasons.{arrive_reason, finish_reason, tick_reason}
+use Rattle.scheduler.specs.Rules.{plan_of, Certified}
 use Rattle.scheduler.specs.Table.{at, is_open}
 use Rattle.scheduler.specs.Steps.{unless, records}
 use Rattle.scheduler.specs.Recording.{is_admitted, arrive_leaves, finish_leaves, TickAnswer, clock_after, arrive_event, finish_event, tick_event, Recorded}
@@ -20,13 +21,13 @@ module _ {B : Type 0} where
 
   -- the refusals of the three calls
   abbrev pub arrive_refused : Ghosts B → Scheduler B → ℕ → ℕ → Option CallRefusal
-  arrive_refused g s k d = arrive_refusal (is_admitted s.verdict) (g.count s.binder) s.clock (length (jobs_of s)) k d
+  arrive_refused g s k d = arrive_reason (is_admitted s.verdict) (g.count s.binder) s.clock (length (jobs_of s)) k d
 
   abbrev pub finish_refused : Scheduler B → ℕ → Option CallRefusal
-  finish_refused s n = finish_refusal (is_admitted s.verdict) (length (jobs_of s)) n (is_open (at (jobs_of s) n).status)
+  finish_refused s n = finish_reason (is_admitted s.verdict) (length (jobs_of s)) n (is_open (at (jobs_of s) n).status)
 
   abbrev pub tick_refused : Scheduler B → Option CallRefusal
-  tick_refused s = tick_refusal (is_admitted s.verdict) s.clock
+  tick_refused s = tick_reason (is_admitted s.verdict) s.clock
 
   -- binder and verdict are those of making
   pub record SameBinder (s t : Scheduler B) : Type 0 where

@@ -4,13 +4,9 @@ use Rattle.std.specs.Prelude.{◌≡◌, ℕ, ◌-◌, ◌<◌, ◌≤◌, Bool,
 use Rattle.demand.specs.declared.binder.Binder.{Ghosts}
 use Rattle.demand.specs.Admission.{admission}
 use Rattle.demand.specs.Fields.{from_to}
-use Rattle.scheduler.specs.declared.calls.Call.{Call}
-use Rattle.scheduler.specs.declared.calls.Call.TheVariants.{Arrive, Finish, Tick}
-use Rattle.scheduler.specs.declared.calls.Event.{Event}
-use Rattle.scheduler.specs.declared.calls.Event.TheVariants.{Arrived, Finished, Ticked, Refused}
-use Rattle.scheduler.specs.declared.calls.CallRefusal.{CallRefusal}
-use Rattle.scheduler.specs.declared.calls.CallRefusal.TheVariants.{NotAdmitted, NoComponent, DeadlineOutOfRange, ClockEnded, TableFull, NoJob, NotOpen}
-use Rattle.scheduler.specs.History.{History, Job, Fate, clock, count, job, units, fate, Cuts, Counts, load}
+use Rattle.scheduler.specs.History.{Call, Event, History, Fate, clock, count, job, units, fate, Cuts, Counts, load}
+use Rattle.scheduler.specs.History.Call.{arrive, finish, tick}
+use Rattle.scheduler.specs.History.Event.{arrived, finished, ticked, refused}
 use Rattle.scheduler.specs.History.Fate.{pending, done, cut}
 use Rattle.scheduler.specs.Windows.{Free, Spent, Ready, Held, FreeAtJobs}
 
@@ -32,55 +28,54 @@ is_pending pending = true
 is_pending done = false
 is_pending cut = false
 
--- The refusal of an arrive, a finish and a tick: the first that applies, or none. They look at whether the binder was admitted, how
--- many components it has, the clock, how many jobs there are, and whether the job that is named is open.
-abbrev pub arrive_refusal : (ok : Bool) (parts now jobs : ℕ) (k d : ℕ) → Option CallRefusal
-arrive_refusal ok parts now jobs k d =
-    cond (not ok) (Some NotAdmitted)
-    (cond (now == 1000000) (Some ClockEnded)
-    (cond (nat_le parts k) (Some NoComponent)
-    (cond (not (from_to 1 4096 d)) (Some DeadlineOutOfRange)
-    (cond (nat_le 96 jobs) (Some TableFull) None))))
+-- the refusal of an arrive, a finish and a tick: the first that applies, or none
+abbrev pub arrive_refusal : Plan → History → ℕ → ℕ → Option ℕ
+arrive_refusal p h k d =
+    cond (not (admitted p)) (Some 11)
+    (cond (clock h == 1000000) (Some 14)
+    (cond (nat_le p.parts k) (Some 12)
+    (cond (not (from_to 1 4096 d)) (Some 13)
+    (cond (nat_le 96 (count h)) (Some 15) None))))
 
-abbrev pub finish_refusal : (ok : Bool) (jobs n : ℕ) (open_job : Bool) → Option CallRefusal
-finish_refusal ok jobs n open_job =
-    cond (not ok) (Some NotAdmitted)
-    (cond (nat_le jobs n) (Some NoJob)
-    (cond (not open_job) (Some NotOpen) None))
+abbrev pub finish_refusal : Plan → History → ℕ → Option ℕ
+finish_refusal p h n =
+    cond (not (admitted p)) (Some 11)
+    (cond (nat_le (count h) n) (Some 16)
+    (cond (not (is_pending (fate h n))) (Some 17) None))
 
-abbrev pub tick_refusal : (ok : Bool) (now : ℕ) → Option CallRefusal
-tick_refusal ok now = cond (not ok) (Some NotAdmitted) (cond (now == 1000000) (Some ClockEnded) None)
+abbrev pub tick_refusal : Plan → History → Option ℕ
+tick_refusal p h = cond (not (admitted p)) (Some 11) (cond (clock h == 1000000) (Some 14) None)
 
--- Of jobs by their numbers, job n goes before job m: the one due first, then the lower component, then the lower number.
-abbrev pub GoesBefore : (ℕ → Job) → ℕ → ℕ → Type 0
-GoesBefore job_at n m =
-    ((job_at n).due < (job_at m).due)
-    ⊎ (((job_at n).due ≡ (job_at m).due) × (((job_at n).component < (job_at m).component) ⊎ (((job_at n).component ≡ (job_at m).component) × (n < m))))
+-- job n goes before job m: the one due first, then the lower component, then the lower number
+abbrev pub GoesBefore : History → ℕ → ℕ → Type 0
+GoesBefore h n m =
+    ((job h n).due < (job h m).due)
+    ⊎ (((job h n).due ≡ (job h m).due) × (((job h n).component < (job h m).component) ⊎ (((job h n).component ≡ (job h m).component) × (n < m))))
 
--- of the jobs that are ready, the one that runs goes before every other; none runs only where none is ready
-abbrev pub RunsFirst : (ℕ → Job) → (ℕ → Type 0) → Option ℕ → Type 0
-RunsFirst job_at ready (Some n) = ready n × ((m : ℕ) → ready m → (n ≡ m) ⊎ GoesBefore job_at n m)
-RunsFirst job_at ready None = (m : ℕ) → ready m → ⊥
+-- the job that runs is ready and goes before every other one that is; none runs only where none is ready
+abbrev pub RunsFirst : Plan → History → Option ℕ → Type 0
+RunsFirst p h (Some n) = Ready p.bound h n × ((m : ℕ) → Ready p.bound h m → (n ≡ m) ⊎ GoesBefore h n m)
+RunsFirst p h None = (m : ℕ) → Ready p.bound h m → ⊥
 
 -- the refusal of any call, and the call that an event answers
-abbrev pub refusal_of : Plan → History → Call → Option CallRefusal
-refusal_of p h (Arrive k d) = arrive_refusal (admitted p) p.parts (clock h) (count h) k d
-refusal_of p h (Finish n) = finish_refusal (admitted p) (count h) n (is_pending (fate h n))
-refusal_of p h Tick = tick_refusal (admitted p) (clock h)
+abbrev pub refusal_of : Plan → History → Call → Option ℕ
+refusal_of p h (arrive k d) = arrive_refusal p h k d
+refusal_of p h (finish n) = finish_refusal p h n
+refusal_of p h tick = tick_refusal p h
 
 abbrev pub call_of : Event → Call
-call_of (Arrived k d n) = Arrive k d
-call_of (Finished n u) = Finish n
-call_of (Ticked ran held cuts) = Tick
-call_of (Refused c why) = c
+call_of (arrived k d n) = arrive k d
+call_of (finished n u) = finish n
+call_of (ticked ran held cuts) = tick
+call_of (refused c why) = c
 
 -- The answer is the one that the rules give after this history. At a tick the open jobs that are due at the clock or earlier are cut
 -- and counted; of those still open the ones without a free unit are held and counted; of the others the first one runs.
 abbrev pub Answers : Plan → Event → History → Type 0
-Answers p (Arrived k d n) h = (refusal_of p h (Arrive k d) ≡ None) × (n ≡ count h)
-Answers p (Finished n u) h = (refusal_of p h (Finish n) ≡ None) × (u ≡ units h n)
-Answers p (Ticked ran held cuts) h = (refusal_of p h Tick ≡ None) × RunsFirst (job h) (Ready p.bound h) ran × Counts (Held p.bound h) (count h) held × Counts (Cuts h) (count h) cuts
-Answers p (Refused c why) h = refusal_of p h c ≡ Some why
+Answers p (arrived k d n) h = (arrive_refusal p h k d ≡ None) × (n ≡ count h)
+Answers p (finished n u) h = (finish_refusal p h n ≡ None) × (u ≡ units h n)
+Answers p (ticked ran held cuts) h = (tick_refusal p h ≡ None) × RunsFirst p h ran × Counts (Held p.bound h) (count h) held × Counts (Cuts h) (count h) cuts
+Answers p (refused c why) h = refusal_of p h c ≡ Some why
 
 -- every answer of the history follows the rules
 abbrev pub Follows : Plan → History → Type 0

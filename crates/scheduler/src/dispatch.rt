@@ -1,7 +1,7 @@
 ghost use Rattle.std.specs.Prelude.{◌≡◌, ◌<◌, ◌≤◌, length, IfSome};
 ghost use Rattle.scheduler.specs.History.{Counts};
+ghost use Rattle.scheduler.specs.Order.{FirstOf};
 ghost use Rattle.scheduler.specs.Policing.{Proper, overtakes, first_of_two};
-ghost use Rattle.scheduler.specs.Rules.{RunsFirst};
 ghost use Rattle.scheduler.specs.Table.{Ascending, job_in, ReadyIn, HeldIn};
 
 use crate::job::Job;
@@ -42,7 +42,7 @@ fn first_of_two(jobs: &[Job], first: Option<usize>, n: usize) -> Option<usize>
 // Of the open jobs, those without a free unit are counted as held; of the others the one that goes first is to run.
 pub(crate) fn survey<B: Binder>(binder: &B, jobs: &[Job]) -> Choice
     requires { (length jobs.now ≤ 96) × ((Proper jobs.now) × (Ascending jobs.now)) }
-    ensures first { RunsFirst (job_in jobs.now) (ReadyIn (B.Binder.bound binder.now) jobs.now) result.first }
+    ensures first { FirstOf (job_in jobs.now) (ReadyIn (B.Binder.bound binder.now) jobs.now) result.first }
     ensures held { Counts (HeldIn (B.Binder.bound binder.now) jobs.now) (length jobs.now) result.held }
 {
     let starts = spent_starts(binder, jobs);

@@ -1,5 +1,6 @@
-ghost use Rattle.std.specs.Prelude.{◌≡◌, IfOk, string_bytes};
+ghost use Rattle.std.specs.Prelude.{◌≡◌, map, IfOk, string_bytes};
 ghost use Rattle.std.specs.List.{flat_map};
+ghost use Rattle.scheduler.specs.Numbers.{recorded_event};
 ghost use Rattle.transcript.specs.Text.{fault_line, refused_line, tick_line, event_line, unreadable_line};
 
 use demand::{Refusal, TestRefusal};
@@ -38,7 +39,7 @@ fn line_for_tick(
 }
 
 fn line_for_event(heap: Global, event: &Event) -> Result<String, AllocError>
-    ensures { IfOk result (λ s. string_bytes s ≡ event_line event.now) }
+    ensures { IfOk result (λ s. string_bytes s ≡ event_line (recorded_event event.now)) }
 {
     match *event {
         Event::Arrived { job, .. } => format!(in heap; "job {job}\n"),
@@ -53,7 +54,7 @@ fn line_for_event(heap: Global, event: &Event) -> Result<String, AllocError>
 
 // A line for each event.
 pub(crate) fn lines_for_events(heap: Global, events: &[Event]) -> Result<String, AllocError>
-    ensures { IfOk result (λ s. string_bytes s ≡ flat_map event_line events.now) }
+    ensures { IfOk result (λ s. string_bytes s ≡ flat_map event_line (map recorded_event events.now)) }
 {
     let mut text = String::new(heap);
     for event in events {

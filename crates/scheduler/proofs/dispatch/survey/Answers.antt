@@ -1,14 +1,14 @@
 use Rattle.std.proofs.Common.{◌≡◌, ℕ, ◌+◌, ◌<◌, ◌≤◌, length, IfSome, Some, None, Option, sym, refl, ◌∙◌, subst, arith}
 use Rattle.std.proofs.lemmas.Bool.{both_ways}
 use Rattle.scheduler.specs.History.{Job, Counts}
-use Rattle.scheduler.specs.Table.{job_in, is_open, OpenIn, ReadyIn, HeldIn}
-use Rattle.scheduler.specs.Rules.{RunsFirst}
+use Rattle.scheduler.specs.Table.{job_in, OpenIn, ReadyIn, HeldIn}
+use Rattle.scheduler.specs.Order.{FirstOf}
 use Rattle.scheduler.proofs.Chosen.{Below, first_kept, first_all, first_found, counts_here, counts_past}
 use Rattle.scheduler.proofs.Policed.{is_free, not_free}
 use Rattle.scheduler.proofs.dispatch.survey.Goals as goal
 use Rattle.scheduler.proofs.dispatch.survey.Goals.{then-is_open+then-is_held, then-is_open+else-is_held, else-is_open}
 
-first_known : (job_at : ℕ → Job) (P : ℕ → Type 0) (n : ℕ) → ((m : ℕ) → P m → m < n) → (o : Option ℕ) → RunsFirst job_at P o → IfSome o (λ i. i < n)
+first_known : (job_at : ℕ → Job) (P : ℕ → Type 0) (n : ℕ) → ((m : ℕ) → P m → m < n) → (o : Option ℕ) → FirstOf job_at P o → IfSome o (λ i. i < n)
 first_known job_at P n below None none = tt
 first_known job_at P n below (Some f) found = below f found.0
 
@@ -31,7 +31,7 @@ loop-n-preserved g c =
     let old = c.loop-n.invariant in
     let starts = c.spent_starts-starts.result in
     let right = c.spent_starts-starts.ensures.starts in
-    let Again : Option ℕ → ℕ → Type 0 = λ first held. (held ≤ n + 1) × RunsFirst (job_in js) (Below (ReadyIn bound js) (n + 1)) first × Counts (HeldIn bound js) (n + 1) held in
+    let Again : Option ℕ → ℕ → Type 0 = λ first held. (held ≤ n + 1) × FirstOf (job_in js) (Below (ReadyIn bound js) (n + 1)) first × Counts (HeldIn bound js) (n + 1) held in
     elim c.if-is_open.branch [
       | then-is_open+then-is_held w ↦
           let o : OpenIn js n = (c.loop-n-test.true, sym c.is_open.ensures ∙ w.if-is_open.true) in

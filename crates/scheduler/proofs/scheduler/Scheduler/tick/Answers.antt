@@ -7,7 +7,8 @@ use Rattle.scheduler.specs.Steps.{records, cut_due, with_unit}
 use Rattle.scheduler.specs.Table.{at, job_in, ReadyIn, HeldIn, Numbered, Dated, Slow, Ascending}
 use Rattle.scheduler.specs.Recording.{is_admitted, Ticks}
 use Rattle.scheduler.specs.Records.{jobs_of}
-use Rattle.scheduler.specs.Rules.{plan_of, RunsFirst}
+use Rattle.scheduler.specs.Order.{FirstOf}
+use Rattle.scheduler.specs.Rules.{plan_of}
 use Rattle.scheduler.proofs.Certificate.{tick_accepted, certified}
 use Rattle.scheduler.proofs.Chosen.{where_some}
 use Rattle.scheduler.proofs.Keeping.{cut_length, cut_each, open_later, numbered_same, dated_same, slow_same, ascending_same, numbered_ran, dated_ran, slow_ran, ascending_ran}
@@ -46,9 +47,9 @@ module _ (now : ℕ) (js : List Entry) (dated : Dated now js) (slow : Slow now j
   proper₁ n l = (dated₁ n l).1
 
   -- the job that is to run, if any, is open and due later
-  module _ (bound : ℕ → ℕ → ℕ) (o : Option ℕ) (first : RunsFirst (job_in (cut_due now js)) (ReadyIn bound (cut_due now js)) o) where
+  module _ (bound : ℕ → ℕ → ℕ) (o : Option ℕ) (first : FirstOf (job_in (cut_due now js)) (ReadyIn bound (cut_due now js)) o) where
     ran_open : (n : ℕ) → o ≡ Some n → (n < length (cut_due now js)) × (now < (at (cut_due now js) n).due)
-    ran_open n e = let r = (subst (RunsFirst (job_in (cut_due now js)) (ReadyIn bound (cut_due now js))) e first).0 in (r.0.0, open_later now js n r.0)
+    ran_open n e = let r = (subst (FirstOf (job_in (cut_due now js)) (ReadyIn bound (cut_due now js))) e first).0 in (r.0.0, open_later now js n r.0)
 
 pub survey-choice-requires : goal.survey-choice-requires
 survey-choice-requires g c =
@@ -68,7 +69,7 @@ run-requires g c =
     let t = c.cut_due-cut.new.self in
     let bound = g.B.Binder.bound s.binder in
     let e : c.records.result.now ≡ cut_due now js = c.records.ensures.value ∙ c.cut_due-cut.ensures.after in
-    let first = subst (λ xs. RunsFirst (job_in xs) (ReadyIn bound xs) c.survey-choice.result.first) e c.survey-choice.ensures.first in
+    let first = subst (λ xs. FirstOf (job_in xs) (ReadyIn bound xs) c.survey-choice.result.first) e c.survey-choice.ensures.first in
     let count_is : length (cut_due now js) ≡ t.count = ap length (sym e) ∙ c.records.ensures.len in
     where_some c.survey-choice.result.first _
     (λ n q.
@@ -86,7 +87,7 @@ invariant_of-self g c =
     let bound = g.B.Binder.bound s.binder in
     let o = c.survey-choice.result.first in
     let e : c.records.result.now ≡ cut_due now js = c.records.ensures.value ∙ c.cut_due-cut.ensures.after in
-    let first = subst (λ xs. RunsFirst (job_in xs) (ReadyIn bound xs) o) e c.survey-choice.ensures.first in
+    let first = subst (λ xs. FirstOf (job_in xs) (ReadyIn bound xs) o) e c.survey-choice.ensures.first in
     let known = ran_open now js s.dated s.slow s.ascending bound o first in
     let after : records c.run.new.self ≡ with_unit o (cut_due now js) = c.run.ensures ∙ ap (with_unit o) c.cut_due-cut.ensures.after in
     let d = dated₁ now js s.dated s.slow s.ascending in
@@ -116,7 +117,7 @@ returns g c =
     let ticks : Ticks p.bound now js answered (records c.run.new.self) = record {
       cut_counted = c.cut_due-cut.ensures.count;
       held_counted = subst (λ xs. Counts (HeldIn p.bound xs) (length xs) held) e c.survey-choice.ensures.held;
-      first_ran = subst (λ xs. RunsFirst (job_in xs) (ReadyIn p.bound xs) o) e c.survey-choice.ensures.first;
+      first_ran = subst (λ xs. FirstOf (job_in xs) (ReadyIn p.bound xs) o) e c.survey-choice.ensures.first;
       one_unit_more = c.run.ensures ∙ ap (with_unit o) c.cut_due-cut.ensures.after;
     } in
     let accepted = sym c.in_default.ensures in
