@@ -12,7 +12,6 @@ import sys
 sys.path.insert(0, os.path.dirname(os.path.abspath(__file__)))
 
 import rules
-from histories import history_cases
 from rules import Line, Rows
 
 POWERS = [1, 2, 4, 8, 16, 32, 64, 128, 256, 512, 1024, 2048, 4096]
@@ -868,7 +867,6 @@ def main():
     ask_cases(accepted)
     write_cases(accepted)
     make_cases()
-    history_cases()
 
 
 if __name__ == "__main__":

@@ -2,7 +2,7 @@
 
     python3 reference/histories.py
 
-prints what the histories have in them; cases.py prints the histories themselves. README.md tells the line format.
+prints what the histories have in them; history_cases.py prints the histories themselves. README.md tells the line format.
 """
 
 import os

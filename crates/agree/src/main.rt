@@ -35,6 +35,8 @@ fn compare(rt: &HostRuntime, name: &str) -> anyhow::Result<(u64, u64)> {
 fn main(rt: HostRuntime) -> anyhow::Result<()> {
     let (agreed, others) = compare(&rt, "cases.txt")?;
     println!(rt; "{agreed} cases agree, {others} do not")?;
+    let (agreed, others) = compare(&rt, "history_cases.txt")?;
+    println!(rt; "{agreed} histories agree, {others} do not")?;
     let (agreed, others) = compare(&rt, "sit_cases.txt")?;
     println!(rt; "{agreed} cases of sit agree, {others} do not")?;
     Ok(())
