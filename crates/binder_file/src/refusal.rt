@@ -5,7 +5,7 @@ ghost use Rattle.std.proofs.Common.{rules};
 use demand::Refusal;
 
 // Why a binder is not written.
-#[derive(Clone, Copy)]
+#[derive(Clone, Copy, PartialEq, Eq, Debug)]
 pub enum WriteRefusal {
     // the binder has no sheet
     NoSheet,

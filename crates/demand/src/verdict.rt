@@ -5,7 +5,7 @@ ghost use Rattle.std.proofs.Common.{rules};
 use crate::refusal::Refusal;
 
 // Why the admission test refuses a binder.
-#[derive(Clone, Copy)]
+#[derive(Clone, Copy, PartialEq, Eq, Debug)]
 pub enum TestRefusal {
     // the shortest length at which the bounds add up to more than that length
     DemandExceeds(u32),

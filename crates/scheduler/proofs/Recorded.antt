@@ -16,7 +16,7 @@ use Rattle.scheduler.specs.History.{Call, History, Job, no_job, Fate, clock, job
 use Rattle.scheduler.specs.History.Call.{arrive, finish, tick}
 use Rattle.scheduler.specs.History.Event.{arrived, finished, refused}
 use Rattle.scheduler.specs.History.Fate.{pending, done, cut}
-use Rattle.scheduler.specs.Numbers.{call_number, number_of}
+use Rattle.scheduler.specs.Numbers.{call_number}
 use Rattle.scheduler.specs.Reasons.{arrive_reason, finish_reason, tick_reason}
 use Rattle.scheduler.specs.Rules.{Plan, admitted, is_pending, refusal_of}
 use Rattle.scheduler.specs.Table.{at, empty_entry, is_open}
@@ -50,6 +50,11 @@ finish_same ok b c n m same =
     let t = le-leb m n ge in
     ap (λ (o : Option CallRefusal). cond (not ok) (Some NotAdmitted) o) (cond-true (leb m n) (Some NoJob) _ t ∙ sym (cond-true (leb m n) (Some NoJob) _ t)))
     (cases_lt n m)
+
+-- the number of a reason, where there is one
+abbrev pub number_of : Option CallRefusal → Option ℕ
+number_of None = None
+number_of (Some why) = Some (call_number why)
 
 -- the number of the first reason that applies
 numbered : (b : Bool) (why : CallRefusal) (o : Option CallRefusal) (n : Option ℕ) → number_of o ≡ n → number_of (cond b (Some why) o) ≡ cond b (Some (call_number why)) n

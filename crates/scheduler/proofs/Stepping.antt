@@ -6,14 +6,14 @@ use Rattle.scheduler.specs.declared.job.Job.{Job as Entry}
 use Rattle.scheduler.specs.History.{History}
 use Rattle.scheduler.specs.History.Call.{arrive, finish, tick}
 use Rattle.scheduler.specs.History.Event.{arrived, finished, refused}
-use Rattle.scheduler.specs.Numbers.{call_number, number_of, recorded_event}
+use Rattle.scheduler.specs.Numbers.{call_number, recorded_event}
 use Rattle.scheduler.specs.Reasons.{arrive_reason, finish_reason}
 use Rattle.scheduler.specs.Rules.{Plan}
 use Rattle.scheduler.specs.Table.{at, is_open}
 use Rattle.scheduler.specs.Steps.{unless}
 use Rattle.scheduler.specs.Recording.{is_admitted, arrive_leaves, finish_leaves, TickAnswer, clock_after, arrive_event, finish_event, tick_event, Recorded}
 use Rattle.scheduler.proofs.Certificate.{finish_known, arrive_sound}
-use Rattle.scheduler.proofs.Recorded.{arrive_same, finish_refused_same, tick_same, refused_recorded, arrived_recorded, finished_recorded}
+use Rattle.scheduler.proofs.Recorded.{number_of, arrive_same, finish_refused_same, tick_same, refused_recorded, arrived_recorded, finished_recorded}
 use Rattle.scheduler.proofs.Ticking.{ticked_recorded}
 
 unless_ok : {X : Type 0} (o : Option CallRefusal) (x y : X) → Ok y ≡ unless o x → (o ≡ None) × (y ≡ x)

@@ -1,5 +1,5 @@
 -- What a history has of the calls and events of the code: the same, with a refusal's number in place of the refusal.
-use Rattle.std.specs.Prelude.{ℕ, List, map, reverse, Some, None, Option}
+use Rattle.std.specs.Prelude.{ℕ, List, map, reverse}
 use Rattle.scheduler.specs.declared.calls.Call.{Call as CallMade}
 use Rattle.scheduler.specs.declared.calls.Call.TheVariants.{Arrive, Finish, Tick}
 use Rattle.scheduler.specs.declared.calls.CallRefusal.{CallRefusal}
@@ -19,11 +19,6 @@ call_number ClockEnded = 14
 call_number TableFull = 15
 call_number NoJob = 16
 call_number NotOpen = 17
-
--- the number of a refusal, where there is one
-abbrev pub number_of : Option CallRefusal → Option ℕ
-number_of None = None
-number_of (Some why) = Some (call_number why)
 
 abbrev pub recorded_call : CallMade → Call
 recorded_call (Arrive k d) = arrive k d

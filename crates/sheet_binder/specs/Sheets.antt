@@ -4,7 +4,7 @@ use Rattle.std.specs.List.{AllByRecursion}
 use Rattle.std.proofs.lemmas.List.{length-map, length-take-le, take_more_set, map_push, get_or-map, get_or-take}
 use Rattle.sheets.specs.declared.fault.RecordStart.{RecordStart}
 use Rattle.sheets.specs.Kinds.{making_judged}
-use Rattle.sheets.specs.Sheets.{Declaration, bound_of, gain_of, component_bound, component_gain}
+use Rattle.sheets.specs.Sheets.{bound_of, gain_of, component_bound, component_gain}
 use Rattle.sheets.proofs.Components.{at_bound, at_gain}
 use Rattle.sheets.proofs.Lawful.{Lawful, sound_rows_lawful, sound_line_lawful, components_lawful}
 use Rattle.sheets.proofs.Records.{sound_rows_accepted, sound_line_accepted}

@@ -12,14 +12,14 @@ pub struct RecordStart {
 }
 
 // Where a fault lies: the index of the record, and a byte offset in the file.
-#[derive(Clone, Copy)]
+#[derive(Clone, Copy, PartialEq, Eq, Debug)]
 pub struct Location {
     pub index: u32,
     pub place: u64,
 }
 
 // Why a binder file, or the fields of a sheet, are refused.
-#[derive(Clone, Copy)]
+#[derive(Clone, Copy, PartialEq, Eq, Debug)]
 pub enum FileFault {
     // the file ends inside the record
     CutShort(Location),

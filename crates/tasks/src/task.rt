@@ -6,7 +6,7 @@ use demand::Refusal;
 
 // One sporadic task as a supplier lists it: a job of at most `budget` units every `period` ticks at most, due `deadline` ticks
 // after its release.
-#[derive(Clone, Copy)]
+#[derive(Clone, Copy, PartialEq, Eq, Debug)]
 pub struct Task {
     pub period: u16,
     pub deadline: u16,
@@ -14,7 +14,7 @@ pub struct Task {
 }
 
 // Why no sheet is made of a task list.
-#[derive(Clone, Copy)]
+#[derive(Clone, Copy, PartialEq, Eq, Debug)]
 pub enum MakeRefusal {
     // this task is out of range; 0 for an empty list, 64 for one of more than 64 tasks
     TaskOutOfRange(usize),
