@@ -20,6 +20,7 @@ from rules import Line, Rows
 from scheduler import Scheduler, verdict
 
 BINDERS = 200
+PAIRS = 100
 LISTS_PER_BINDER = 5
 
 
@@ -66,12 +67,18 @@ def random_sheets(rng, counts):
 
 
 def random_binder(rng):
-    """An admitted binder: some sheets, or two binders side by side."""
+    return random_sheets(rng, [1, 2, 2, 3, 3, 4, 8])
+
+
+def random_pair(rng):
+    """Two binders side by side."""
+    return rules.side_by_side(random_sheets(rng, [0, 1, 1, 2, 4]), random_sheets(rng, [1, 1, 2, 3]))
+
+
+def admitted(draw, rng):
+    """The first of the drawn binders that is admitted."""
     while True:
-        if rng.random() < 0.3:
-            sheets = rules.side_by_side(random_sheets(rng, [0, 1, 1, 2, 4]), random_sheets(rng, [1, 1, 2, 3]))
-        else:
-            sheets = random_sheets(rng, [1, 2, 2, 3, 3, 4, 8])
+        sheets = draw(rng)
         if verdict(sheets) == (0, 0):
             return sheets
 
@@ -124,14 +131,14 @@ def run(scheduler, twin, rng, calls, seen):
     return None if window is None else "component %d ran past its bound from %d to %d" % window
 
 
-def failure(make, make_twin, seen):
-    """What fails first on the lists, with the scheduler that `make` gives for a binder, or None.
+def failure(draw, binders, make, make_twin, seen):
+    """What fails first on the lists over so many drawn binders, with the scheduler that `make` gives for one, or None.
 
     Where there is a `make_twin`, its scheduler has to give the same answers.
     """
     rng = random.Random(20)
-    for _ in range(BINDERS):
-        sheets = random_binder(rng)
+    for _ in range(binders):
+        sheets = admitted(draw, rng)
         for _ in range(LISTS_PER_BINDER):
             seen.add("lists")
             twin = None if make_twin is None else make_twin(sheets)
@@ -142,15 +149,17 @@ def failure(make, make_twin, seen):
 
 
 def main():
-    seen = Seen()
-    failed = failure(Scheduler, JobWindowScheduler, seen)
-    if failed is not None:
-        print(failed)
-        return 1
-    for what in sorted(seen.counts):
-        print(what, seen.counts[what])
+    for draw, binders in ((random_binder, BINDERS), (random_pair, PAIRS)):
+        seen = Seen()
+        failed = failure(draw, binders, Scheduler, JobWindowScheduler, seen)
+        if failed is not None:
+            print(failed)
+            return 1
+        print(draw.__name__.replace("_", " ") + ":")
+        for what in sorted(seen.counts):
+            print(" ", what, seen.counts[what])
     for broken in BROKEN:
-        failed = failure(broken, None, Seen())
+        failed = failure(random_binder, BINDERS, broken, None, Seen())
         if failed is None:
             print(broken.__name__ + ": no law fails")
             return 1
