@@ -7,7 +7,7 @@ use row_sheet::RowSheet;
 use sheet_binder::SheetBinder;
 use sheets::Row;
 use std::alloc::{AllocError, Global};
-use tasks::{Task, make_from_tasks};
+use tasks::Task;
 use transcript::transcript;
 
 // Whether the library agrees with the next line.
@@ -119,7 +119,7 @@ fn make_agrees(heap: Global, words: &mut Words) -> Result<bool, AllocError> {
     let tasks = read_tasks(heap, words)?;
     let number = words.number();
     let mut sheet = RowSheet::BUILT_IN;
-    let answer = make_from_tasks(&mut sheet, &tasks);
+    let answer = sheet.make_from_tasks(&tasks);
     if number == 0 {
         let rows = read_rows(heap, words)?;
         return Ok(answer.is_ok() && sheet.rows() == rows.as_slice());

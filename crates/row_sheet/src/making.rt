@@ -1,11 +1,15 @@
-ghost use Rattle.std.specs.Prelude.{◌≡◌, ◌≤◌, Ok, Err};
+ghost use Rattle.std.specs.Prelude.{◌≡◌, ◌≤◌, List, map, Ok, Err};
 ghost use Rattle.sheets.specs.Rows.{row_fields, in_order, row_judged, rows_judged};
 ghost use Rattle.sheets.specs.Faults.{then, meaning};
 ghost use Rattle.row_sheet.specs.RowSheets.{sheet_rows};
 ghost use Rattle.sheets.specs.declared.fault.FileFault.{FileFault};
+ghost use Rattle.sheets.specs.declared.row.Row.{Row};
+ghost use Rattle.tasks.specs.Tasks.{rounded, Grouped, tasks_judged};
+ghost use Rattle.tasks.specs.declared.task.MakeRefusal.{MakeRefusal};
 
 use crate::sheet::RowSheet;
 use sheets::{FileFault, Location, RecordStart, Row, accept, is_power, lies_in};
+use tasks::{MakeRefusal, Task, TaskRows, rows_of_tasks};
 
 // The row's fields in file order, the row being `offset` bytes into its record.
 fn judge_fields(row: &Row, start: RecordStart, offset: u32) -> Result<(), FileFault>
@@ -78,6 +82,17 @@ impl RowSheet {
         ensures kept { (e : FileFault) → result ≡ Err e → self.new ≡ self.old }
     {
         *self = sheet_of_rows(rows, RecordStart::FIRST)?;
+        Ok(())
+    }
+    // Makes this the sheet of the tasks: rounded, grouped and counted, in sheet order. There is only one such sheet.
+    pub fn make_from_tasks(&mut self, tasks: &[Task]) -> Result<(), MakeRefusal>
+        ensures answer { result ≡ tasks_judged tasks.now }
+        ensures grouped { result ≡ Ok tt → Grouped (map rounded tasks.now) (sheet_rows self.new) }
+        ensures no_other { result ≡ Ok tt → (rs : List Row) → Grouped (map rounded tasks.now) rs → rs ≡ sheet_rows self.new }
+        ensures kept { (e : MakeRefusal) → result ≡ Err e → self.new ≡ self.old }
+    {
+        let TaskRows { rows, len } = rows_of_tasks(tasks)?;
+        *self = RowSheet { rows, len };
         Ok(())
     }
 }

@@ -1,9 +1,9 @@
-// Sheets of rows made from lists of sporadic tasks.
+// Rows of sheets made from lists of sporadic tasks.
 
 #![tactic(auto)]
 
 mod making;
 mod task;
 
-pub use making::make_from_tasks;
+pub use making::{TaskRows, rows_of_tasks};
 pub use task::{MakeRefusal, Task};

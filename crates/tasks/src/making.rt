@@ -1,17 +1,21 @@
-ghost use Rattle.std.specs.Prelude.{◌≡◌, ℕ, ◌+◌, ◌<◌, ◌≤◌, List, map, length, take, IfOk, if◌then◌else◌, Ok, Err, slice_index_or};
-ghost use Rattle.sheets.specs.Rows.{before};
-ghost use Rattle.row_sheet.specs.RowSheets.{sheet_rows};
+ghost use Rattle.std.specs.Prelude.{◌≡◌, ℕ, ◌+◌, ◌<◌, ◌≤◌, true, List, map, length, take, IfOk, if◌then◌else◌, Ok, slice_index_or};
+ghost use Rattle.sheets.specs.Rows.{before, sound_rows};
 ghost use Rattle.tasks.specs.Tasks.{power_below, power_above, task_sound, rounded, alike, copies_of, no_row, Grouped, crowded, refused_by, tasks_in_range, tasks_judged};
 ghost use Rattle.demand.specs.Admission.{first_where};
 ghost use Rattle.sheets.specs.Faults.{meaning};
 ghost use Rattle.tasks.specs.declared.task.MakeRefusal.TheVariants.{NoRoom};
 ghost use Rattle.tasks.specs.Placing.{placed, no_room};
 ghost use Rattle.sheets.specs.declared.row.Row.{Row};
-ghost use Rattle.tasks.specs.declared.task.MakeRefusal.{MakeRefusal};
 
 use crate::task::{MakeRefusal, Task};
-use row_sheet::RowSheet;
 use sheets::{Row, lies_in};
+
+// The rows that a task list makes, in the first `len` slots. Slots at and past `len` have no meaning.
+#[derive(Clone, Copy)]
+pub struct TaskRows {
+    pub rows: [Row; 8],
+    pub len: usize,
+}
 
 // The largest of the powers of two from 1 to 4,096 that is at most x.
 fn round_down(x: u16) -> u16
@@ -154,11 +158,12 @@ fn is_crowded(row: &Row, rows: &[Row]) -> bool
     copies >= 16 || (copies == 0 && rows.len() >= 8)
 }
 
-// The sheet of tasks that are in range.
-fn sheet_of_tasks(tasks: &[Task]) -> Result<RowSheet, MakeRefusal>
+// The rows of tasks that are in range.
+fn group_tasks(tasks: &[Task]) -> Result<TaskRows, MakeRefusal>
     requires { tasks_in_range tasks.now ≡ Ok tt }
     ensures answer { meaning (λ _. tt {0}) result ≡ refused_by NoRoom (first_where (crowded (map rounded tasks.now)) 0 (length tasks.now)) }
-    ensures grouped { IfOk result (λ s. Grouped (map rounded tasks.now) (sheet_rows s)) }
+    ensures grouped { IfOk result (λ r. Grouped (map rounded tasks.now) (take r.len r.rows)) }
+    ensures sound { IfOk result (λ r. (r.len ≤ 8) × (sound_rows (take r.len r.rows) ≡ true)) }
 {
     let mut rows = [Row {
         period: 0,
@@ -174,19 +179,17 @@ fn sheet_of_tasks(tasks: &[Task]) -> Result<RowSheet, MakeRefusal>
         }
         len = place(row, &mut rows, len);
     }
-    let mut sheet = RowSheet::BUILT_IN;
-    sheet.make(&rows[0..len]).unwrap();
-    Ok(sheet)
+    Ok(TaskRows { rows, len })
 }
 
-// Makes the sheet that of the tasks: rounded, grouped and counted, in sheet order. There is only one such sheet.
-pub fn make_from_tasks(sheet: &mut RowSheet, tasks: &[Task]) -> Result<(), MakeRefusal>
-    ensures answer { result ≡ tasks_judged tasks.now }
-    ensures grouped { result ≡ Ok tt → Grouped (map rounded tasks.now) (sheet_rows sheet.new) }
-    ensures no_other { result ≡ Ok tt → (rs : List Row) → Grouped (map rounded tasks.now) rs → rs ≡ sheet_rows sheet.new }
-    ensures kept { (e : MakeRefusal) → result ≡ Err e → sheet.new ≡ sheet.old }
+// The rows of a sheet for these tasks: rounded, grouped and counted, in sheet order. There are no other such rows, and the rules
+// accept them.
+pub fn rows_of_tasks(tasks: &[Task]) -> Result<TaskRows, MakeRefusal>
+    ensures answer { meaning (λ _. tt {0}) result ≡ tasks_judged tasks.now }
+    ensures grouped { IfOk result (λ r. Grouped (map rounded tasks.now) (take r.len r.rows)) }
+    ensures no_other { IfOk result (λ r. (rs : List Row) → Grouped (map rounded tasks.now) rs → rs ≡ take r.len r.rows) }
+    ensures sound { IfOk result (λ r. (r.len ≤ 8) × (sound_rows (take r.len r.rows) ≡ true)) }
 {
     judge_tasks(tasks)?;
-    *sheet = sheet_of_tasks(tasks)?;
-    Ok(())
+    group_tasks(tasks)
 }

@@ -2,7 +2,7 @@ use Rattle.std.proofs.Common.{◌≡◌, ◌-◌, map, length, take}
 use Rattle.demand.specs.Admission.{first_where}
 use Rattle.tasks.specs.Tasks.{rounded, crowded}
 use Rattle.tasks.proofs.Tasked.{Filled}
-use Rattle.tasks.proofs.making.sheet_of_tasks.Given as goal
+use Rattle.tasks.proofs.making.group_tasks.Given as goal
 
 abbrev pub invariant-loop-i : goal.invariant-loop-i
 invariant-loop-i l =

@@ -1,16 +1,14 @@
-use Rattle.std.proofs.Common.{◌≡◌, ℕ, ◌+◌, ◌-◌, ◌<◌, ◌≤◌, true, false, List, map, length, get_or, take, is_ok, Result, sym, ap, ◌∙◌, subst, arith, rules}
+use Rattle.std.proofs.Common.{◌≡◌, ℕ, ◌+◌, ◌-◌, ◌<◌, ◌≤◌, true, false, List, map, length, get_or, take, sym, ap, ◌∙◌, subst, arith, rules}
 use Rattle.std.proofs.ByRecursion.{All-get_or}
 use Rattle.std.proofs.lemmas.List.{length-map, get_or-map, get_or-take}
 use Rattle.sheets.specs.declared.row.Row.{Row}
-use Rattle.sheets.specs.declared.fault.FileFault.{FileFault}
-use Rattle.sheets.specs.Rows.{sound_rows}
 use Rattle.tasks.specs.declared.task.MakeRefusal.TheVariants.{NoRoom}
 use Rattle.tasks.specs.Placing.{no_room}
-use Rattle.tasks.specs.Tasks.{rounded, copies_of, Grouped, no_row, no_task, crowded, refused_by}
+use Rattle.tasks.specs.Tasks.{rounded, copies_of, no_row, no_task, crowded, refused_by}
 use Rattle.demand.proofs.Firsts.{first_here, first_later, first_none}
 use Rattle.sheets.proofs.Rows.{row_ranges, ranges_from}
 use Rattle.tasks.proofs.Tasked.{Filled, tasks_accepted, crowded_is, placed_few, filled_more, filled_sound}
-use Rattle.tasks.proofs.making.sheet_of_tasks.Goals as goal
+use Rattle.tasks.proofs.making.group_tasks.Goals as goal
 
 pub returns-then-is_crowded : goal.returns-then-is_crowded
 returns-then-is_crowded c =
@@ -23,7 +21,7 @@ returns-then-is_crowded c =
     let t : crowded ks i ≡ true =
     crowded_is ks i (take c.loop-i.len c.loop-i.rows) c.row_of-row.result v.2 (omega (arith, length-map ts rounded)) is
     ∙ ap (λ (n : ℕ). no_room (copies_of c.row_of-row.result (take n c.loop-i.rows)) (length (take n c.loop-i.rows))) (sym z) ∙ sym c.if-is_crowded.ensures in
-    record { answer = sym (ap (refused_by NoRoom) (v.3 ∙ first_here (crowded ks) i (length ts) (omega arith) t)); grouped = tt }
+    record { answer = sym (ap (refused_by NoRoom) (v.3 ∙ first_here (crowded ks) i (length ts) (omega arith) t)); grouped = tt; sound = tt }
 
 pub place-len-requires : goal.place-len-requires
 place-len-requires c =
@@ -70,24 +68,14 @@ loop-i-preserved c =
       v.3 ∙ first_later (crowded ks) i (length ts) (omega arith) (crowded_is ks i rs c.row_of-row.result v.2 here is ∙ f),
     )
 
-pub unwrap-requires : goal.unwrap-requires
-unwrap-requires c =
-    let ts = c.args.tasks.now in
-    let v = c.loop-i.invariant in
-    let a = tasks_accepted ts c.requires in
-    let z : c.loop-i.len - 0 ≡ c.loop-i.len = omega arith in
-    let s = filled_sound (map rounded ts) (take c.loop-i.len c.loop-i.rows) c.loop-i.i (omega (arith, length-map ts rounded)) (omega (arith, length-map ts rounded, a.some)) v.2 in
-    ap (λ (r : Result (Unit {0}) FileFault). is_ok r) c.make.ensures.answer ∙ ap (λ (n : ℕ). sound_rows (take n c.loop-i.rows)) z ∙ s.0
-
 pub returns : goal.returns
 returns c =
     let ts = c.args.tasks.now in
     let v = c.loop-i.invariant in
     let a = tasks_accepted ts c.requires in
-    let z : c.loop-i.len - 0 ≡ c.loop-i.len = omega arith in
     let s = filled_sound (map rounded ts) (take c.loop-i.len c.loop-i.rows) c.loop-i.i (omega (arith, length-map ts rounded)) (omega (arith, length-map ts rounded, a.some)) v.2 in
-    let held = c.make.ensures.made c.unwrap.ensures ∙ ap (λ (n : ℕ). take n c.loop-i.rows) z in
     record {
       answer = sym (ap (refused_by NoRoom) (v.3 ∙ first_none (crowded (map rounded ts)) c.loop-i.i (length ts) (omega arith)));
-      grouped = subst (λ (l : List Row). Grouped (map rounded ts) l) (sym held) s.1;
+      grouped = s.1;
+      sound = (omega (arith, v.1, v.2.few), s.0);
     }
