@@ -84,6 +84,7 @@ impl RowSheet {
         *self = sheet_of_rows(rows, RecordStart::FIRST)?;
         Ok(())
     }
+
     // Makes this the sheet of the tasks: rounded, grouped and counted, in sheet order. There is only one such sheet.
     pub fn make_from_tasks(&mut self, tasks: &[Task]) -> Result<(), MakeRefusal>
         ensures answer { result ≡ tasks_judged tasks.now }
