@@ -1,9 +1,9 @@
-use Rattle.std.proofs.Common.{◌≡◌, ℕ, zero, suc, ◌+◌, ◌-◌, ◌*◌, ◌^◌, ◌<◌, ◌≤◌, Bool, true, false, cond, ltb, leb, ◌⊎◌, Some, None, Ok, Err, Option, Result, sym, refl, ap, ◌∙◌, ⊎_elim, mul-le-mul_left, add-one, arith}
-use Rattle.std.proofs.lemmas.Bool.{cond-true, cond-false, and_from, and_left, and_right, le-leb, leb-true, lt-leb, lt-ltb, le-ltb, ltb-false, cases_lt, cases_Bool}
+use Rattle.std.proofs.Common.{◌≡◌, ℕ, zero, suc, ◌+◌, ◌-◌, ◌*◌, ◌^◌, ◌<◌, ◌≤◌, Bool, true, false, cond, ltb, leb, Some, None, Ok, Err, Option, Result, sym, refl, ap, ◌∙◌, ⊎_elim, mul-le-mul_left, add-one, arith}
+use Rattle.std.proofs.lemmas.Bool.{cond-true, cond-false, and_from, le-leb, leb-true, le-ltb, ltb-false, cases_lt, cases_Bool}
 use Rattle.demand.specs.declared.verdict.TestRefusal.{TestRefusal}
 use Rattle.demand.specs.declared.verdict.TestRefusal.TheVariants.{DemandExceeds, GainsExceed, SheetCount}
 use Rattle.demand.specs.Fields.{from_to}
-use Rattle.demand.proofs.Firsts.{first_here, first_later, first_none}
+use Rattle.demand.proofs.Firsts.{first_where-none}
 use Rattle.demand.proofs.Fields.{range_from}
 use Rattle.demand.specs.Verdicts.{verdict_numbers}
 use Rattle.demand.specs.Admission.{total, demand, first_where, first_exceeded, by_gains, admission, DemandFits}
@@ -15,13 +15,6 @@ total_more n f = rw add-one refl
 -- a gain is no larger than the bound at 8,192
 pub gain_fits : (f : ℕ → ℕ) (g : ℕ) → f (4096 + 4096) ≡ f 4096 + g → f (4096 + 4096) ≤ 2 ^ 52 → g ≤ 2 ^ 52
 gain_fits f g e h = omega arith
-
--- one length is looked at
-pub exceeded_here : (d : ℕ → ℕ) (l : ℕ) → l ≤ 8192 → l < d l → first_exceeded d l (8193 - l) ≡ Some l
-exceeded_here d l h k = first_here (λ n. ltb n (d n)) l 8193 (omega arith) (lt-ltb l (d l) k)
-
-pub exceeded_later : (d : ℕ → ℕ) (l : ℕ) → l ≤ 8192 → d l ≤ l → first_exceeded d l (8193 - l) ≡ first_exceeded d (l + 1) (8193 - (l + 1))
-exceeded_later d l h k = first_later (λ n. ltb n (d n)) l 8193 (omega arith) (le-ltb l (d l) k)
 
 -- none is found exactly where every length suffices
 none_step : (d : ℕ → ℕ) (l more : ℕ) (b : Bool) → cond b (Some l) (first_exceeded d (l + 1) more) ≡ None → (b ≡ false) × (first_exceeded d (l + 1) more ≡ None)
@@ -38,10 +31,7 @@ none_suffices d l (suc more) e m h k =
     (cases_lt l m)
 
 suffices_none : (d : ℕ → ℕ) (l more : ℕ) → ((m : ℕ) → l ≤ m → m < l + more → d m ≤ m) → first_exceeded d l more ≡ None
-unfolding first_where
-suffices_none d l zero h = refl
-suffices_none d l (suc more) h =
-    cond-false (ltb l (d l)) (Some l) _ (le-ltb l (d l) (h l (omega arith) (omega arith))) ∙ suffices_none d (l + 1) more (λ m p q. h m (omega arith) (omega arith))
+suffices_none d l more h = first_where-none (λ n. ltb n (d n)) l more (λ m p q. le-ltb m (d m) (h m p q))
 
 -- the demand repeats itself as each bound does
 demand_repeats : (n : ℕ) (bound : ℕ → ℕ → ℕ) (gain : ℕ → ℕ) (l : ℕ) → ((k : ℕ) → bound k (l + 4096) ≡ bound k l + gain k) → demand n bound (l + 4096) ≡ demand n bound l + total n gain
@@ -104,28 +94,6 @@ module _ (count : ℕ) (bound : ℕ → ℕ → ℕ) (gain : ℕ → ℕ) (repea
       ∙ ap (λ o. by_gains o (total count gain)) (suffices_none (demand count bound) 1 8192 (λ m p q. f.supplied m p))
       ∙ cond-true (leb (total count gain) 4096) _ _ (le-leb (total count gain) 4096 (gains_fit f.supplied))
 
--- the test's four answers
-module _ (count : ℕ) (bound : ℕ → ℕ → ℕ) (gain : ℕ → ℕ) where
-  pub too_few_or_many : (count < 1) ⊎ ((1 ≤ count) × (8 < count)) → admission count bound gain ≡ Err SheetCount
-  too_few_or_many h = cond-false (from_to 1 8 count) _ _ (⊎_elim (λ (p : count < 1). and_left (leb 1 count) (leb count 8) (lt-leb 1 count p)) (λ (p : (1 ≤ count) × (8 < count)). and_right (leb 1 count) (leb count 8) (lt-leb count 8 p.1)) h)
-
-  pub enough : 1 ≤ count → count ≤ 8 → admission count bound gain ≡ by_gains (first_exceeded (demand count bound) 1 8192) (total count gain)
-  enough low high = cond-true (from_to 1 8 count) _ _ (and_from (leb 1 count) (leb count 8) (le-leb 1 count low) (le-leb count 8 high))
-
-  pub exceeds_at : (l : ℕ) → 1 ≤ count → count ≤ 8 → first_exceeded (demand count bound) 1 8192 ≡ first_exceeded (demand count bound) l (8193 - l) → l ≤ 8192 → l < demand count bound l → admission count bound gain ≡ Err (DemandExceeds l)
-  exceeds_at l low high e h k = enough low high ∙ ap (λ o. by_gains o (total count gain)) (e ∙ exceeded_here (demand count bound) l h k)
-
-  ends : (l : ℕ) → 8193 ≤ l → first_exceeded (demand count bound) l (8193 - l) ≡ None
-  ends l h = first_none (λ n. ltb n (demand count bound n)) l 8193 h
-
-  pub gains_exceed : (l : ℕ) → 1 ≤ count → count ≤ 8 → first_exceeded (demand count bound) 1 8192 ≡ first_exceeded (demand count bound) l (8193 - l) → 8193 ≤ l → 4096 < total count gain → admission count bound gain ≡ Err GainsExceed
-  gains_exceed l low high e h k =
-      enough low high ∙ ap (λ o. by_gains o (total count gain)) (e ∙ ends l h) ∙ cond-false (leb (total count gain) 4096) _ _ (lt-leb (total count gain) 4096 k)
-
-  pub all_fit : (l : ℕ) → 1 ≤ count → count ≤ 8 → first_exceeded (demand count bound) 1 8192 ≡ first_exceeded (demand count bound) l (8193 - l) → 8193 ≤ l → total count gain ≤ 4096 → admission count bound gain ≡ Ok tt
-  all_fit l low high e h k =
-      enough low high ∙ ap (λ o. by_gains o (total count gain)) (e ∙ ends l h) ∙ cond-true (leb (total count gain) 4096) _ _ (le-leb (total count gain) 4096 k)
-
 -- only an admitted binder has the verdict (0, 0)
 pub admitted_numbers : (r : Result (Unit {0}) TestRefusal) → verdict_numbers r ≡ (0, 0) → r ≡ Ok tt
 admitted_numbers (Ok _) e = refl
@@ -155,6 +123,6 @@ gains_numbers None gains h =
 
 pub numbers_fit : (count : ℕ) (bound : ℕ → ℕ → ℕ) (gain : ℕ → ℕ) → 1 ≤ count → count ≤ 8 → ((verdict_numbers (admission count bound gain)).0 ≤ 9) × ((verdict_numbers (admission count bound gain)).1 ≤ 8192)
 numbers_fit count bound gain low high =
-    let e = enough count bound gain low high in
+    let e : admission count bound gain ≡ by_gains (first_exceeded (demand count bound) 1 8192) (total count gain) = cond-true (from_to 1 8 count) _ _ (and_from (leb 1 count) (leb count 8) (le-leb 1 count low) (le-leb count 8 high)) in
     let g = gains_numbers (first_exceeded (demand count bound) 1 8192) (total count gain) (λ x f. omega (arith, exceeded_within (demand count bound) 1 8192 x f)) in
     rw e g

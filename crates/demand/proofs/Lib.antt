@@ -1,3 +1,4 @@
 pub mod Admitted
-pub mod Fields
-pub mod Firsts
+mod Fields
+mod Firsts
+mod Totals

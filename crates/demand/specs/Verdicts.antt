@@ -1,4 +1,4 @@
-use Rattle.std.specs.Prelude.{ℕ, Ok, Err, Result}
+use Rattle.std.specs.Prelude.{ℕ, List, Ok, Err, codes, Result}
 use Rattle.demand.specs.declared.verdict.TestRefusal.{TestRefusal}
 use Rattle.demand.specs.declared.verdict.TestRefusal.TheVariants.{DemandExceeds, GainsExceed, SheetCount}
 
@@ -12,3 +12,9 @@ refusal_numbers SheetCount = (10, 0)
 abbrev pub verdict_numbers : Result (Unit {0}) TestRefusal → ℕ × ℕ
 verdict_numbers (Ok _) = (0, 0)
 verdict_numbers (Err e) = refusal_numbers e
+
+-- why the test refuses a binder
+abbrev pub refusal_words : TestRefusal → List ℕ
+refusal_words (DemandExceeds l) = codes "the bounds add up to more than that length"
+refusal_words GainsExceed = codes "the gains add up to more than 4096"
+refusal_words SheetCount = codes "a binder has one to eight sheets"

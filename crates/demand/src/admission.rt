@@ -1,44 +1,47 @@
-ghost use Rattle.std.specs.Prelude.{◌≡◌};
-ghost use Rattle.demand.specs.Admission.{total, demand, admission, DemandFits, Tightest};
+ghost use Rattle.std.specs.Prelude.{◌≡◌, Ok};
+ghost use Rattle.demand.specs.Admission.{total, demand, first_exceeded, admission, slack, DemandFits, Tightest};
 ghost use Rattle.demand.specs.Verdicts.{verdict_numbers};
 
 use crate::binder::Binder;
 use crate::verdict::TestRefusal;
 
+// A length of window, and the units that stay free in it.
+#[derive(Clone, Copy, PartialEq, Eq, Debug)]
+pub struct Slack {
+    pub length: u32,
+    pub free: u64,
+}
+
 // The units that all components may demand together in a window of `length` ticks.
 pub fn total_demand<B: Binder>(binder: &B, length: u32) -> u64
     ensures { result ≡ demand (B.Binder.count binder.now) (B.Binder.bound binder.now) length }
 {
-    let mut units = 0;
-    for k in 0..binder.count() {
-        units += binder.bound(k, length);
-    }
-    units
+    (0..binder.count()).map(|k| binder.bound(k, length)).sum()
 }
 
 // The sum of the components' gains.
 pub fn total_gain<B: Binder>(binder: &B) -> u64
     ensures { result ≡ total (B.Binder.count binder.now) (B.Binder.gain binder.now) }
 {
-    let mut units = 0;
-    for k in 0..binder.count() {
-        units += binder.gain(k);
-    }
-    units
+    (0..binder.count()).map(|k| binder.gain(k)).sum()
+}
+
+// The shortest length from 1 to 8,192 at which the bounds add up to more than that length, if there is one.
+fn first_exceeded<B: Binder>(binder: &B) -> Option<u32>
+    ensures { result ≡ first_exceeded (demand (B.Binder.count binder.now) (B.Binder.bound binder.now)) 1 8192 }
+{
+    (1..8193u32).find(|&length| total_demand(binder, length) > u64::from(length))
 }
 
 // Whether the binder's components may share the core, and if not, why.
 pub fn admit<B: Binder>(binder: &B) -> Result<(), TestRefusal>
     ensures { result ≡ admission (B.Binder.count binder.now) (B.Binder.bound binder.now) (B.Binder.gain binder.now) }
 {
-    let count = binder.count();
-    if count < 1 || count > 8 {
+    if !(1..=8).contains(&binder.count()) {
         return Err(TestRefusal::SheetCount);
     }
-    for length in 1..8193u32 {
-        if total_demand(binder, length) > length as u64 {
-            return Err(TestRefusal::DemandExceeds(length));
-        }
+    if let Some(length) = first_exceeded(binder) {
+        return Err(TestRefusal::DemandExceeds(length));
     }
     if total_gain(binder) > 4096 {
         return Err(TestRefusal::GainsExceed);
@@ -64,18 +67,28 @@ pub fn admission_test<B: Binder>(binder: &B) -> (u32, u32)
     verdict_numbers(admit(binder))
 }
 
-// The shortest length from 1 to 8,192 at which the fewest units stay free, and how many do.
-pub fn tightest<B: Binder>(binder: &B) -> (u32, u64)
-    ensures { Tightest (B.Binder.count binder.now) (B.Binder.bound binder.now) result.0 result.1 }
+// The units that stay free in a window of that length.
+fn slack_at<B: Binder>(binder: &B, length: u32) -> Slack
+    ensures length { result.length ≡ length }
+    ensures free { result.free ≡ slack (B.Binder.count binder.now) (B.Binder.bound binder.now) length }
 {
-    let mut at = 1;
-    let mut free = 1u64.saturating_sub(total_demand(binder, 1));
+    Slack {
+        length,
+        free: u64::from(length).saturating_sub(total_demand(binder, length)),
+    }
+}
+
+// The shortest length from 1 to 8,192 at which the fewest units stay free, and how many do.
+pub fn tightest<B: Binder>(binder: &B) -> Slack
+    ensures { Tightest (B.Binder.count binder.now) (B.Binder.bound binder.now) result.length result.free }
+{
+    // A loop, since `min_by_key` answers an `Option`, and there is always a least one.
+    let mut least = slack_at(binder, 1);
     for length in 2..8193u32 {
-        let slack = (length as u64).saturating_sub(total_demand(binder, length));
-        if slack < free {
-            at = length;
-            free = slack;
+        let slack = slack_at(binder, length);
+        if slack.free < least.free {
+            least = slack;
         }
     }
-    (at, free)
+    least
 }

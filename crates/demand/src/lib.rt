@@ -8,7 +8,9 @@ mod refusal;
 mod side_by_side;
 mod verdict;
 
-pub use admission::{admission_test, admit, tightest, total_demand, total_gain, verdict_numbers};
+pub use admission::{
+    Slack, admission_test, admit, tightest, total_demand, total_gain, verdict_numbers,
+};
 pub use binder::Binder;
 pub use refusal::Refusal;
 pub use side_by_side::SideBySide;

@@ -1,5 +1,5 @@
-ghost use Rattle.std.specs.Prelude.{◌+◌, min};
-ghost use Rattle.demand.specs.Sides.{side_count, side_value};
+ghost use Rattle.std.specs.Prelude.{◌≡◌, ◌+◌, min};
+ghost use Rattle.demand.specs.Sides.{side_count, side_of, side_value};
 ghost use Rattle.demand.specs.SidesLemmas.{side_climbs};
 ghost use Rattle.std.proofs.Common.{rules};
 
@@ -10,6 +10,29 @@ use crate::binder::Binder;
 pub struct SideBySide<A: Binder, B: Binder> {
     pub first: A,
     pub second: B,
+}
+
+// The binder that a component belongs to, with its number there.
+#[derive(Clone, Copy, PartialEq, Eq, Debug)]
+enum Side {
+    First(u32),
+    Second(u32),
+}
+
+impl<A: Binder, B: Binder> SideBySide<A, B> {
+    // The side of component k, if there is such a component.
+    fn side_of(&self, k: u32) -> Option<Side>
+        ensures { result ≡ side_of (A.Binder.count self.now.first) (B.Binder.count self.now.second) k }
+    {
+        let n = self.first.count();
+        if k >= self.count() {
+            None
+        } else if k < n {
+            Some(Side::First(k))
+        } else {
+            Some(Side::Second(k - n))
+        }
+    }
 }
 
 impl<A: Binder, B: Binder> Binder for SideBySide<A, B> {
@@ -38,24 +61,18 @@ impl<A: Binder, B: Binder> Binder for SideBySide<A, B> {
     }
 
     fn bound(&self, k: u32, length: u32) -> u64 {
-        let n = self.first.count();
-        if k >= self.count() {
-            0
-        } else if k < n {
-            self.first.bound(k, length)
-        } else {
-            self.second.bound(k - n, length)
+        match self.side_of(k) {
+            Some(Side::First(i)) => self.first.bound(i, length),
+            Some(Side::Second(i)) => self.second.bound(i, length),
+            None => 0,
         }
     }
 
     fn gain(&self, k: u32) -> u64 {
-        let n = self.first.count();
-        if k >= self.count() {
-            0
-        } else if k < n {
-            self.first.gain(k)
-        } else {
-            self.second.gain(k - n)
+        match self.side_of(k) {
+            Some(Side::First(i)) => self.first.gain(i),
+            Some(Side::Second(i)) => self.second.gain(i),
+            None => 0,
         }
     }
 }

@@ -1,8 +1,10 @@
-ghost use Rattle.std.specs.Prelude.{◌≡◌};
-ghost use Rattle.demand.specs.Verdicts.{refusal_numbers};
+ghost use Rattle.std.specs.Prelude.{◌≡◌, Some};
+ghost use Rattle.demand.specs.Verdicts.{refusal_numbers, refusal_words};
 ghost use Rattle.std.proofs.Common.{rules};
 
 use crate::refusal::Refusal;
+use std::error::Error;
+use std::fmt;
 
 // Why the admission test refuses a binder.
 #[derive(Clone, Copy, PartialEq, Eq, Debug)]
@@ -39,3 +41,18 @@ impl Refusal for TestRefusal {
         self.numbers().0
     }
 }
+
+// Why, in words.
+impl fmt::Display for TestRefusal {
+    ghost output = { λ x. Some (refusal_words x) };
+
+    fn fmt<W: fmt::Write>(&self, f: &mut fmt::Formatter<W>) -> fmt::Result {
+        f.write_str(match self {
+            TestRefusal::DemandExceeds(_) => "the bounds add up to more than that length",
+            TestRefusal::GainsExceed => "the gains add up to more than 4096",
+            TestRefusal::SheetCount => "a binder has one to eight sheets",
+        })
+    }
+}
+
+impl Error for TestRefusal {}

@@ -1,9 +1,24 @@
-use Rattle.std.proofs.Common.{arith}
-use Rattle.demand.proofs.Admitted.{total_more}
+use Rattle.std.proofs.Common.{ℕ, ◌*◌, ◌^◌, ◌≤◌, ◌∙◌, rules, arith}
+use Rattle.std.proofs.lemmas.Iterator.{YieldsList-from_map, YieldsList-from_range}
+use Rattle.std.proofs.lemmas.Iterator.Consumers.{sum_from_yields_List, fits_from_yields_list}
+use Rattle.demand.specs.Admission.{total}
+use Rattle.demand.proofs.Totals.{sum-of_components, total-le}
 use Rattle.demand.proofs.admission.total_demand.Goals as goal
 
-pub loop-k-preserved : goal.loop-k-preserved
-loop-k-preserved g c =
-    let m = total_more c.loop-k.k (λ k. g.B.Binder.bound c.args.binder.now k c.args.length) in
-    let f = g.met.B.Binder.fits c.args.binder.now c.loop-k.k c.args.length (omega arith) in
-    (omega (arith, m, c.loop-k.invariant.0, c.bound-units.ensures), omega (arith, f, c.loop-k.invariant.1, c.bound-units.ensures))
+pub sum-requires-clause-fits : goal.sum-requires-clause-fits
+sum-requires-clause-fits g c =
+    let b = c.args.binder.now in
+    let n = g.B.Binder.count b in
+    let f : ℕ → ℕ = λ k. g.B.Binder.bound b k c.args.length in
+    let few : n ≤ 9 = g.met.B.Binder.few b in
+    let most : total n f ≤ n * 2 ^ 52 = total-le n (2 ^ 52) f (λ k. g.met.B.Binder.fits b k c.args.length (omega arith)) in
+    fits_from_yields_list c.map.result (2 ^ 64) (YieldsList-from_map _ f (YieldsList-from_range 0 n n (search rules) (omega arith)) c.map.ensures.closure (λ x r q k. search rules))
+    (omega (arith, few, most, sum-of_components n f))
+
+pub returns : goal.returns
+returns g c =
+    let b = c.args.binder.now in
+    let n = g.B.Binder.count b in
+    let f : ℕ → ℕ = λ k. g.B.Binder.bound b k c.args.length in
+    sum_from_yields_List c.map.result _ c.sum.ensures.ran (YieldsList-from_map _ f (YieldsList-from_range 0 n n (search rules) (omega arith)) c.map.ensures.closure (λ x r q k. search rules))
+    ∙ sum-of_components n f
