@@ -1,4 +1,4 @@
 pub mod Admitted
-mod Fields
-mod Firsts
+pub mod Fields
+pub mod Firsts
 mod Totals

@@ -1,4 +1,4 @@
-use Rattle.std.specs.Prelude.{ℕ, ◌+◌, ◌-◌, ◌*◌, ◌/◌, Bool, cond, is_ok, Result, nat_le, nat_lt}
+use Rattle.std.specs.Prelude.{ℕ, ◌+◌, ◌-◌, ◌*◌, ◌/◌, Bool, cond, List, ◌++◌, is_ok, codes, decimal, Result, nat_le, nat_lt}
 use Rattle.sheets.specs.declared.line.Line.{Line}
 use Rattle.sheets.specs.declared.fault.RecordStart.{RecordStart}
 use Rattle.sheets.specs.declared.fault.FileFault.{FileFault}
@@ -24,3 +24,8 @@ line_bound x l = cond (nat_lt l x.deadline) 0 (x.burst + x.rate * (l - x.deadlin
 
 abbrev pub line_gain : Line → ℕ
 line_gain x = x.rate * 4096 / x.per
+
+-- a line as it is printed
+abbrev pub line_words : Line → List ℕ
+line_words x =
+    codes "deadline " ++ (decimal x.deadline ++ (codes " burst " ++ (decimal x.burst ++ (codes " rate " ++ (decimal x.rate ++ (codes " per " ++ decimal x.per))))))

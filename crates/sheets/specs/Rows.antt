@@ -1,4 +1,4 @@
-use Rattle.std.specs.Prelude.{ℕ, ◌+◌, ◌-◌, ◌*◌, ◌/◌, Bool, cond, ◌&&◌, ◌||◌, List, [], ◌∷◌, length, is_ok, Some, None, Ok, Err, sum_by, Option, Result, ◌==◌, nat_lt}
+use Rattle.std.specs.Prelude.{ℕ, ◌+◌, ◌-◌, ◌*◌, ◌/◌, Bool, cond, ◌&&◌, ◌||◌, List, [], ◌∷◌, ◌++◌, length, is_ok, Some, None, Ok, Err, sum_by, codes, decimal, Option, Result, ◌==◌, nat_lt}
 use Rattle.sheets.specs.declared.row.Row.{Row}
 use Rattle.sheets.specs.declared.fault.Location.{Location}
 use Rattle.sheets.specs.declared.fault.RecordStart.{RecordStart}
@@ -60,3 +60,8 @@ rows_bound rs l = sum_by (λ r. row_bound r l) rs
 
 abbrev pub rows_gain : List Row → ℕ
 rows_gain rs = sum_by row_gain rs
+
+-- a row as it is printed
+abbrev pub row_words : Row → List ℕ
+row_words r =
+    codes "period " ++ (decimal r.period ++ (codes " deadline " ++ (decimal r.deadline ++ (codes " budget " ++ (decimal r.budget ++ (codes " copies " ++ decimal r.copies))))))

@@ -19,13 +19,14 @@ abbrev pub gain_of : Declaration → ℕ
 gain_of (rows rs) = rows_gain rs
 gain_of (line x) = line_gain x
 
--- the bound and the gain of component k of a list of sheets, 0 past its end
+-- what f says of component k of a list of sheets, 0 past its end
+abbrev pub component_value : (Declaration → ℕ) → List Declaration → ℕ → ℕ
+component_value f [] k = 0
+component_value f (d ∷ ds) zero = f d
+component_value f (d ∷ ds) (suc k) = component_value f ds k
+
 abbrev pub component_bound : List Declaration → ℕ → ℕ → ℕ
-component_bound [] k l = 0
-component_bound (d ∷ ds) zero l = bound_of d l
-component_bound (d ∷ ds) (suc k) l = component_bound ds k l
+component_bound ds k l = component_value (λ d. bound_of d l) ds k
 
 abbrev pub component_gain : List Declaration → ℕ → ℕ
-component_gain [] k = 0
-component_gain (d ∷ ds) zero = gain_of d
-component_gain (d ∷ ds) (suc k) = component_gain ds k
+component_gain ds k = component_value gain_of ds k

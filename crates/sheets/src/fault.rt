@@ -1,11 +1,13 @@
-ghost use Rattle.std.specs.Prelude.{◌≡◌};
-ghost use Rattle.sheets.specs.Faults.{spot, fault_numbers};
+ghost use Rattle.std.specs.Prelude.{◌≡◌, Some};
+ghost use Rattle.sheets.specs.Faults.{spot, fault_numbers, fault_words};
 ghost use Rattle.std.proofs.Common.{rules};
 
 use demand::Refusal;
+use std::error::Error;
+use std::fmt;
 
 // Where a record of a binder file begins: its index, counted from 0, and its byte offset in the file.
-#[derive(Clone, Copy)]
+#[derive(Clone, Copy, PartialEq, Eq, Debug)]
 pub struct RecordStart {
     pub index: u32,
     pub place: u32,
@@ -45,7 +47,7 @@ impl RecordStart {
     {
         Location {
             index: self.index,
-            place: self.place as u64 + offset as u64,
+            place: u64::from(self.place) + u64::from(offset),
         }
     }
 }
@@ -77,3 +79,21 @@ impl Refusal for FileFault {
         self.numbers().0
     }
 }
+
+// What is wrong with the record, in words.
+impl fmt::Display for FileFault {
+    ghost output = { λ x. Some (fault_words x) };
+
+    fn fmt<W: fmt::Write>(&self, f: &mut fmt::Formatter<W>) -> fmt::Result {
+        f.write_str(match self {
+            FileFault::CutShort(_) => "is cut short by the end of the file",
+            FileFault::UnknownKind(_) => "is of no known kind",
+            FileFault::WrongLength(_) => "has a length that no sheet of its kind has",
+            FileFault::OutOfRange(_) => "has a field outside its range",
+            FileFault::OutOfOrder(_) => "has a row that does not come after the one before",
+            FileFault::RecordCount(_) => "is one too few or too many: a file has one to eight",
+        })
+    }
+}
+
+impl Error for FileFault {}

@@ -8,17 +8,14 @@ use crate::fault::{FileFault, Location};
 pub fn is_power(x: u16) -> bool
     ensures { result ≡ power_of_two x }
 {
-    matches!(
-        x,
-        1 | 2 | 4 | 8 | 16 | 32 | 64 | 128 | 256 | 512 | 1024 | 2048 | 4096
-    )
+    x <= 4096 && x.is_power_of_two()
 }
 
 // Whether x lies from low to high, both included.
 pub fn lies_in(low: u16, high: u16, x: u16) -> bool
     ensures { result ≡ from_to low high x }
 {
-    low <= x && x <= high
+    (low..=high).contains(&x)
 }
 
 // A field that is refused unless it passes its test.

@@ -1,13 +1,13 @@
 ghost use Rattle.std.specs.Prelude.{◌≡◌, ℕ, ◌<◌, ◌≤◌, List, length, Err, Result};
 ghost use Rattle.sheets.specs.Faults.{spot, meaning};
 ghost use Rattle.sheets.specs.Kinds.{kind_of, fields_of};
-ghost use Rattle.sheets.specs.Over.{over};
 ghost use Rattle.sheets.specs.Sheets.{Declaration};
 ghost use Rattle.sheets.specs.declared.fault.FileFault.{FileFault};
 ghost use Rattle.sheets.specs.declared.fault.FileFault.TheVariants.{WrongLength};
 ghost use Rattle.sheets.specs.declared.fault.RecordStart.{RecordStart};
 
 use crate::fault::{FileFault, RecordStart};
+use arrayvec::ArrayVec;
 
 // A kind of sheet: its number in a file, and how its fields, two bytes each, are read and written.
 pub trait SheetKind: Sized {
@@ -35,9 +35,9 @@ pub trait SheetKind: Sized {
     fn field_count(&self) -> usize
         ensures { result ≡ length (fields_of (declares self.now)) };
 
-    // Puts the sheet's fields into the first slots.
-    fn put_fields(&self, out: &mut [u16; 40])
-        ensures { out.new ≡ over (fields_of (declares self.now)) out.old };
+    // The sheet's fields in file order.
+    fn fields(&self) -> ArrayVec<u16, 40>
+        ensures { result.items ≡ fields_of (declares self.now) };
 
     ghost named: { (x : Self) → kind_of (declares x) ≡ number };
 
