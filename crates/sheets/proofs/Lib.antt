@@ -7,4 +7,4 @@ pub mod Overwriting
 pub mod Places
 pub mod Records
 pub mod Rows
-mod Powers
+pub mod Powers

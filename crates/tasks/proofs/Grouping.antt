@@ -35,11 +35,17 @@ trichotomy r s a b = grind (arith, nat_tests)
 pub not_alike : (r s : Row) → before r s ≡ true → alike r s ≡ false
 not_alike r s h = grind (arith, nat_tests)
 
-not_alike_back : (r s : Row) → before r s ≡ true → alike s r ≡ false
+pub not_alike_back : (r s : Row) → before r s ≡ true → alike s r ≡ false
 not_alike_back r s h = grind (arith, nat_tests)
 
 like_before : (s r x : Row) → alike s r ≡ true → before s x ≡ true → before r x ≡ true
 like_before s r x p h = grind (arith, nat_tests)
+
+pub before_like_of : (r s t : Row) → before r s ≡ true → alike s t ≡ true → before r t ≡ true
+before_like_of r s t h p = grind (arith, nat_tests)
+
+pub not_before : (r s : Row) → before r s ≡ true → before s r ≡ false
+not_before r s h = grind (arith, nat_tests)
 
 before_through : (r s t : Row) → before r s ≡ true → before s t ≡ true → before r t ≡ true
 before_through r s t p q = grind (arith, nat_tests)
@@ -56,13 +62,13 @@ way t r =
     (λ (a : alike r t ≡ false). ⊎_elim (λ (b : before t r ≡ true). leads a b) (λ (b : before t r ≡ false). follows a (trichotomy r t a b) b) (cases_Bool (before t r)))
     (cases_Bool (alike r t))
 
-by_join : (t r : Row) (rs : List Row) → alike r t ≡ true → placed t (r ∷ rs) ≡ joined_copies r t ∷ rs
+pub by_join : (t r : Row) (rs : List Row) → alike r t ≡ true → placed t (r ∷ rs) ≡ joined_copies r t ∷ rs
 by_join t r rs a = cond-true (alike r t) _ _ a
 
 by_lead : (t r : Row) (rs : List Row) → alike r t ≡ false → before t r ≡ true → placed t (r ∷ rs) ≡ t ∷ placed r rs
 by_lead t r rs a b = cond-false (alike r t) _ _ a ∙ cond-true (before t r) _ _ b
 
-by_follow : (t r : Row) (rs : List Row) → alike r t ≡ false → before t r ≡ false → placed t (r ∷ rs) ≡ r ∷ placed t rs
+pub by_follow : (t r : Row) (rs : List Row) → alike r t ≡ false → before t r ≡ false → placed t (r ∷ rs) ≡ r ∷ placed t rs
 by_follow t r rs a b = cond-false (alike r t) _ _ a ∙ cond-false (before t r) _ _ b
 
 -- a row that stands before all others comes first
@@ -74,7 +80,7 @@ placed_front t (r ∷ rs) a h =
 before_all : (t r : Row) (rs : List Row) → before t r ≡ true → AllByRecursion (λ s. before r s ≡ true) rs → AllByRecursion (λ s. before t s ≡ true) rs
 before_all t r rs b a = All-weaker (λ s. before r s ≡ true) (λ s. before t s ≡ true) (λ s h. before_through t r s b h) rs a
 
-lead_front : (t r : Row) (rs : List Row) → alike r t ≡ false → before t r ≡ true → Ascending (r ∷ rs) → placed t (r ∷ rs) ≡ t ∷ r ∷ rs
+pub lead_front : (t r : Row) (rs : List Row) → alike r t ≡ false → before t r ≡ true → Ascending (r ∷ rs) → placed t (r ∷ rs) ≡ t ∷ r ∷ rs
 lead_front t r rs a b h = by_lead t r rs a b ∙ ap (λ (l : List Row). t ∷ l) (placed_front r rs h.0 h.1)
 
 -- what stands before t and before all rows stands before them with t among them

@@ -1,4 +1,5 @@
-pub mod Grouping
+mod Ordered
 mod Placed
 mod Rounding
 mod Tasked
+pub mod Grouping

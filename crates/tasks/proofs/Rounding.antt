@@ -1,6 +1,8 @@
-use Rattle.std.proofs.Common.{◌≡◌, ℕ, zero, suc, ◌+◌, ◌*◌, ◌^◌, ◌<◌, ◌≤◌, true, false, cond, ◌&&◌, eqb, leb, List, [], ◌∷◌, Some, Option, sym, refl, ap, ◌∙◌, ⊎_elim, add-one, arith, pow_mono}
-use Rattle.std.proofs.lemmas.Nat.{pow_pos, pow-add}
-use Rattle.std.proofs.lemmas.Bool.{cond_both, cond-true, cond-false, and_parts, and_from, or_left, or_right, or_cases, eq-eqb, eqb-true, le-leb, leb-false, lt-leb, cases_Bool}
+use Rattle.std.proofs.Common.{◌≡◌, ℕ, zero, suc, ◌*◌, ◌/◌, ◌%◌, ◌^◌, ◌<◌, ◌≤◌, ◌⊎◌, inl, inr, min, max, subst, true, false, ◌&&◌, eqb, leb, List, [], ◌∷◌, Some, None, IfSome, IfNone, unwrap_or, Option, sym, refl, ap, ◌∙◌, ⊎_elim, arith, pow_mono}
+use Rattle.std.proofs.lemmas.Nat.{pow_pos}
+use Rattle.std.proofs.lemmas.Bool.{cond_both, cond-true, cond-false, and_parts, and_from, or_left, or_right, eq-eqb, le-leb, leb-false, lt-leb, cases_Bool, cases_lt}
+use Rattle.std.proofs.Math.Nat.{pow-succ'}
+use Rattle.std.specs.Int.{IsPowerOfTwo}
 use Rattle.std.specs.List.{AllByRecursion}
 use Rattle.sheets.specs.declared.row.Row.{Row}
 use Rattle.tasks.specs.declared.task.Task.{Task}
@@ -8,6 +10,7 @@ use Rattle.demand.specs.Fields.{from_to}
 use Rattle.sheets.specs.Fields.{power_up_to, power_of_two}
 use Rattle.tasks.specs.Tasks.{power_below, power_above, task_sound, rounded, Ascending}
 use Rattle.demand.proofs.Fields.{range_from}
+use Rattle.sheets.proofs.Powers.{power_range}
 use Rattle.sheets.proofs.Rows.{row_ranges, rows_fine, follows}
 
 -- both roundings give powers of two
@@ -24,14 +27,6 @@ above_power (suc e) x =
     cond_both (leb x (2 ^ e)) (power_above e x) (2 ^ suc e) (λ p. power_up_to (suc e) p ≡ true)
     (λ _. or_right (eqb (power_above e x) (2 ^ suc e)) _ (above_power e x))
     (λ _. or_left (eqb (2 ^ suc e) (2 ^ suc e)) _ (eq-eqb (2 ^ suc e) (2 ^ suc e) refl))
-
-power_range : (e x : ℕ) → power_up_to e x ≡ true → (1 ≤ x) × (x ≤ 2 ^ e)
-power_range zero x h = let p = eqb-true x 1 h in (omega arith, omega arith)
-power_range (suc e) x h =
-    let m : 2 ^ e ≤ 2 ^ suc e = pow_mono (omega arith) in
-    ⊎_elim (λ (a : eqb x (2 ^ suc e) ≡ true). let p = eqb-true x (2 ^ suc e) a in (omega (arith, p, pow_pos (suc e)), omega (arith, p)))
-    (λ (b : power_up_to e x ≡ true). let q = power_range e x b in (q.0, omega (arith, q.1)))
-    (or_cases (eqb x (2 ^ suc e)) (power_up_to e x) h)
 
 below_most : (e x : ℕ) → power_below e x ≤ 2 ^ e
 below_most e x = (power_range e (power_below e x) (below_power e x)).1
@@ -76,30 +71,54 @@ joined_ranges r n h low high =
     let c = and_parts (from_to 1 4096 r.budget) (from_to 1 16 r.copies) b.1 in
     and_from _ _ a.0 (and_from _ _ b.0 (and_from _ _ c.0 (in_range 1 16 n low high)))
 
--- one exponent more
-pub power_more : (e p : ℕ) → p ≡ 2 ^ e → p * 2 ≡ 2 ^ (e + 1)
-power_more e p h = ap (λ n. n * 2) h ∙ sym (pow-add 2 e 1)
+-- at most, or more
+lt_or_le : (m n : ℕ) → (m ≤ n) ⊎ (n < m)
+lt_or_le m n = ⊎_elim (λ (h : n < m). inr h) (λ (h : m ≤ n). inl h) (cases_lt n m)
 
-below_next : (e x : ℕ) → power_below (e + 1) x ≡ cond (leb (2 ^ (e + 1)) x) (2 ^ (e + 1)) (power_below e x)
-below_next e x = rw add-one refl
+-- the largest power of two that is at most x, from its exponent
+pub power_below-exponent : (e x k : ℕ) → 2 ^ k ≤ x → x < 2 * 2 ^ k → power_below e x ≡ 2 ^ min k e
+power_below-exponent zero x k low high = let e : 0 ≡ min k 0 = omega arith in ap (λ (n : ℕ). 2 ^ n) e
+power_below-exponent (suc e) x k low high =
+    ⊎_elim (λ (q : k ≤ e).
+    let m : 2 * 2 ^ k ≤ 2 ^ suc e = subst (λ (n : ℕ). n ≤ 2 ^ suc e) (pow-succ' 2 k) (pow_mono (omega arith)) in
+    let same : min k e ≡ min k (suc e) = omega arith in
+    cond-false (leb (2 ^ suc e) x) _ _ (lt-leb (2 ^ suc e) x (omega arith)) ∙ power_below-exponent e x k low high ∙ ap (λ (n : ℕ). 2 ^ n) same)
+    (λ (q : e < k).
+    let m : 2 ^ suc e ≤ 2 ^ k = pow_mono (omega arith) in
+    let all : suc e ≡ min k (suc e) = omega arith in
+    cond-true (leb (2 ^ suc e) x) _ _ (le-leb (2 ^ suc e) x (omega arith)) ∙ ap (λ (n : ℕ). 2 ^ n) all)
+    (lt_or_le k e)
 
-above_next : (e x : ℕ) → power_above (e + 1) x ≡ cond (leb x (2 ^ e)) (power_above e x) (2 ^ (e + 1))
-above_next e x = rw add-one refl
+-- the smallest power of two that is at least x, where it is at most 2 ^ e
+pub power_above-next : (e x p : ℕ) → x ≤ 2 ^ e → IsPowerOfTwo p → x ≤ p → p / 2 < max 1 x → p ≡ power_above e x
+power_above-next zero x p h (k, is) low high = omega (arith, pow_pos k, is)
+power_above-next (suc e) x p h (k, is) low high =
+    ⊎_elim (λ (q : x ≤ 2 ^ e).
+    power_above-next e x p q (k, is) low high ∙ sym (cond-true (leb x (2 ^ e)) _ _ (le-leb x (2 ^ e) q)))
+    (λ (q : 2 ^ e < x).
+    let a : suc e ≤ k =
+    ⊎_elim (λ (l : k < suc e). let m : 2 ^ k ≤ 2 ^ e = pow_mono (omega arith) in absurd (omega (arith, is))) (λ (l : suc e ≤ k). l) (cases_lt k (suc e)) in
+    let b : k ≤ suc e =
+    ⊎_elim (λ (l : suc e < k). let m : 2 ^ suc (suc e) ≤ 2 ^ k = pow_mono (omega arith) in absurd (omega (arith, is, pow-succ' 2 (suc e)))) (λ (l : k ≤ suc e). l) (cases_lt (suc e) k) in
+    let same : k ≡ suc e = omega arith in
+    is ∙ ap (λ (n : ℕ). 2 ^ n) same ∙ sym (cond-false (leb x (2 ^ e)) _ _ (lt-leb x (2 ^ e) q)))
+    (lt_or_le x (2 ^ e))
 
-pub below_more : (e x p : ℕ) → p ≡ 2 ^ e → p * 2 ≤ x → p * 2 ≡ power_below (e + 1) x
-below_more e x p h k = power_more e p h ∙ sym (below_next e x ∙ cond-true (leb (2 ^ (e + 1)) x) _ _ (le-leb (2 ^ (e + 1)) x (omega (arith, power_more e p h))))
+-- the largest power of two that is at most x, by its exponent, where x is not 0
+pub rounds_down : (o : Option ℕ) (x m : ℕ) → IfNone o (x ≡ 0) → IfSome o (λ k. 2 ^ k ≤ x) → IfSome o (λ k. x < 2 * 2 ^ k) → m ≡ min (unwrap_or o 0) 12 → (1 * 2 ^ m) % 65536 ≡ power_below 12 x
+rounds_down None x m none low high e =
+    let z : power_below 12 x ≡ 1 = ap (power_below 12) none in
+    let one : 2 ^ m ≡ 1 = ap (λ (n : ℕ). 2 ^ n) e in
+    omega (arith, z, one)
+rounds_down (Some k) x m none low high e =
+    let p : 2 ^ m ≡ power_below 12 x = ap (λ (n : ℕ). 2 ^ n) e ∙ sym (power_below-exponent 12 x k low high) in
+    omega (arith, p, below_most 12 x)
 
-pub below_same : (e x p : ℕ) → p ≡ 2 ^ e → x < p * 2 → power_below e x ≡ power_below (e + 1) x
-below_same e x p h k = sym (below_next e x ∙ cond-false (leb (2 ^ (e + 1)) x) _ _ (lt-leb (2 ^ (e + 1)) x (omega (arith, power_more e p h))))
-
-pub above_more : (e x p : ℕ) → p ≡ 2 ^ e → p < x → 2 * p ≡ power_above (e + 1) x
-above_more e x p h k =
-    let d : 2 * p ≡ 2 ^ (e + 1) = omega (arith, power_more e p h) in
-    d ∙ sym (above_next e x ∙ cond-false (leb x (2 ^ e)) _ _ (lt-leb x (2 ^ e) (omega (arith, h))))
-
-pub above_same : (e x p : ℕ) → p ≡ 2 ^ e → x ≤ p → power_above e x ≡ power_above (e + 1) x
-above_same e x p h k = sym (above_next e x ∙ cond-true (leb x (2 ^ e)) _ _ (le-leb x (2 ^ e) (omega (arith, h))))
-
--- up to 2 ^ 12
-pub power_fits : (e p : ℕ) → e < 12 → p ≡ 2 ^ e → p * 2 ≤ 4096
-power_fits e p h k = let l : e + 1 ≤ 12 = omega arith in let m : 2 ^ (e + 1) ≤ 2 ^ 12 = pow_mono l in omega (arith, power_more e p k)
+-- a number past 4,096 is rounded up as 4,096 is
+pub power_above-capped : (x : ℕ) → power_above 12 (min x 4096) ≡ power_above 12 x
+power_above-capped x =
+    ⊎_elim (λ (h : x ≤ 4096). let e : min x 4096 ≡ x = omega arith in ap (power_above 12) e)
+    (λ (h : 4096 < x).
+    let e : min x 4096 ≡ 4096 = omega arith in
+    ap (power_above 12) e ∙ sym (cond-false (leb x 2048) _ _ (lt-leb x 2048 (omega arith))))
+    (lt_or_le x 4096)

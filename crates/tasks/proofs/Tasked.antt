@@ -1,5 +1,5 @@
 use Rattle.std.proofs.Common.{◌≡◌, ℕ, zero, suc, ◌+◌, ◌<◌, ◌≤◌, Bool, true, false, cond, not, ◌&&◌, ◌||◌, eqb, ltb, leb, List, [], ◌∷◌, ◌++◌, length, get_or, take, Some, None, Ok, Option, sym, refl, ap, ◌∙◌, subst, ⊎_elim, arith}
-use Rattle.std.specs.List.{AllByRecursion}
+use Rattle.std.specs.List.{AllByRecursion, position, position_from}
 use Rattle.std.proofs.ByRecursion.{All-weaker}
 use Rattle.std.proofs.lemmas.List.{take_more, take_all}
 use Rattle.std.proofs.lemmas.List.Sums.{sum_by-append, sum_by-cons}
@@ -14,6 +14,7 @@ use Rattle.sheets.specs.Rows.{sound_rows}
 use Rattle.tasks.specs.Placing.{joined_copies, placed, no_room}
 use Rattle.tasks.specs.Tasks.{task_sound, rounded, alike, how_many, copies_of, Grouped, no_row, no_task, different, crowded, refused_by, tasks_in_range}
 use Rattle.demand.proofs.Admitted.{total_more}
+use Rattle.std.proofs.lemmas.Iterator.Adapters.{position_from-zero}
 use Rattle.tasks.proofs.Grouping.{placed_all, placed_length, copies_most, grouped_more}
 use Rattle.sheets.proofs.Inverting.{not_caught}
 use Rattle.tasks.proofs.Rounding.{rounded_ranges, fine_from, joined_ranges}
@@ -22,6 +23,22 @@ use Rattle.sheets.proofs.Rows.{row_ranges, follows, judged_ok}
 -- a list of 1 to 64 tasks is judged task by task
 pub tasks_sized : (ts : List Task) → eqb (length ts) 0 ≡ false → length ts ≤ 64 → tasks_in_range ts ≡ refused_by TaskOutOfRange (first_where (λ i. not (task_sound (get_or ts i no_task))) 0 (length ts))
 tasks_sized ts e h = cond-false (eqb (length ts) 0) _ _ e ∙ cond-false (ltb 64 (length ts)) _ _ (le-ltb 64 (length ts) h)
+
+-- the first element that passes is at the first index at which one does
+by_index : {X : Type 0} (p : X → Bool) (xs : List X) (d : X) (i : ℕ) (ys : List X) → ((j : ℕ) → j < length ys → get_or xs (i + j) d ≡ get_or ys j d) → position_from p i ys ≡ first_where (λ k. p (get_or xs k d)) i (length ys)
+unfolding first_where
+by_index p xs d i [] same = refl
+by_index {X} p xs d i (y ∷ ys) same =
+    let e : get_or xs (i + 0) d ≡ y = same 0 (omega arith) in
+    let z : i + 0 ≡ i = omega arith in
+    let here : p y ≡ p (get_or xs i d) = ap p (sym e ∙ ap (λ (n : ℕ). get_or xs n d) z) in
+    let next = by_index p xs d (i + 1) ys (λ j h. let m : (i + 1) + j ≡ i + suc j = omega arith in ap (λ (n : ℕ). get_or xs n d) m ∙ same (suc j) (omega arith)) in
+    ap (λ (b : Bool). cond b (Some i) (position_from p (i + 1) ys)) here
+    ∙ ap (λ (o : Option ℕ). cond (p (get_or xs i d)) (Some i) o) next
+
+pub first_where-position : {X : Type 0} (p : X → Bool) (xs : List X) (d : X) → position p xs ≡ first_where (λ i. p (get_or xs i d)) 0 (length xs)
+first_where-position {X} p xs d =
+    position_from-zero p xs ∙ by_index p xs d 0 xs (λ j h. let z : 0 + j ≡ j = omega arith in ap (λ (n : ℕ). get_or xs n d) z)
 
 -- where no number passes the test, none does
 none_pass : (test : ℕ → Bool) (n more : ℕ) → first_where test n more ≡ None → (i : ℕ) → n ≤ i → i < n + more → test i ≡ false

@@ -1,4 +1,4 @@
-use Rattle.std.specs.Prelude.{◌≡◌, ℕ, zero, suc, ◌+◌, ◌^◌, ◌≤◌, Bool, true, cond, not, ◌&&◌, ◌||◌, List, [], ◌∷◌, map, length, take, Some, None, Ok, Err, sum_by, count_by, Option, Result, ◌==◌, nat_le, nat_lt, slice_index_or}
+use Rattle.std.specs.Prelude.{◌≡◌, ℕ, zero, suc, ◌+◌, ◌^◌, ◌≤◌, Bool, true, cond, not, ◌&&◌, ◌||◌, List, [], ◌∷◌, ◌++◌, map, length, take, Some, None, Ok, Err, sum_by, count_by, codes, decimal, Option, Result, ◌==◌, nat_le, nat_lt, slice_index_or}
 use Rattle.std.specs.List.{AllByRecursion}
 use Rattle.sheets.specs.declared.row.Row.{Row}
 use Rattle.tasks.specs.declared.task.Task.{Task}
@@ -13,6 +13,11 @@ use Rattle.sheets.specs.Rows.{before}
 abbrev pub make_numbers : MakeRefusal → ℕ × ℕ
 make_numbers (TaskOutOfRange i) = (18, i)
 make_numbers (NoRoom i) = (19, i)
+
+-- and what it says
+abbrev pub make_words : MakeRefusal → List ℕ
+make_words (TaskOutOfRange i) = codes "task " ++ (decimal i ++ codes " is out of range")
+make_words (NoRoom i) = codes "task " ++ (decimal i ++ codes " needs a ninth row or a seventeenth copy")
 
 -- the largest of 2 ^ 0, .., 2 ^ e that is at most x, and the smallest that is at least x
 abbrev pub power_below : ℕ → ℕ → ℕ

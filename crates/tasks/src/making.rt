@@ -1,6 +1,7 @@
-ghost use Rattle.std.specs.Prelude.{◌≡◌, ℕ, ◌+◌, ◌<◌, ◌≤◌, true, List, map, length, take, IfOk, if◌then◌else◌, Ok, slice_index_or};
-ghost use Rattle.sheets.specs.Rows.{before, sound_rows};
-ghost use Rattle.tasks.specs.Tasks.{power_below, power_above, task_sound, rounded, alike, copies_of, no_row, Grouped, crowded, refused_by, tasks_in_range, tasks_judged};
+ghost use Rattle.std.specs.Prelude.{◌≡◌, ◌≤◌, true, not, List, map, length, IfOk, if◌then◌else◌, Ok};
+ghost use Rattle.std.specs.List.{AllByRecursion, position};
+ghost use Rattle.sheets.specs.Rows.{sound_rows};
+ghost use Rattle.tasks.specs.Tasks.{power_below, power_above, task_sound, rounded, alike, copies_of, Ascending, Grouped, crowded, refused_by, tasks_in_range, tasks_judged};
 ghost use Rattle.demand.specs.Admission.{first_where};
 ghost use Rattle.sheets.specs.Faults.{meaning};
 ghost use Rattle.tasks.specs.declared.task.MakeRefusal.TheVariants.{NoRoom};
@@ -8,43 +9,21 @@ ghost use Rattle.tasks.specs.Placing.{placed, no_room};
 ghost use Rattle.sheets.specs.declared.row.Row.{Row};
 
 use crate::task::{MakeRefusal, Task};
+use arrayvec::ArrayVec;
 use sheets::{Row, lies_in};
-
-// The rows that a task list makes, in the first `len` slots. Slots at and past `len` have no meaning.
-#[derive(Clone, Copy)]
-pub struct TaskRows {
-    pub rows: [Row; 8],
-    pub len: usize,
-}
 
 // The largest of the powers of two from 1 to 4,096 that is at most x.
 fn round_down(x: u16) -> u16
     ensures { result ≡ power_below 12 x }
 {
-    let mut power = 1;
-    let mut found = 1;
-    for _i in 0..12u32 {
-        power *= 2;
-        if power <= x {
-            found = power;
-        }
-    }
-    found
+    1 << x.checked_ilog2().unwrap_or(0).min(12)
 }
 
 // The smallest of the powers of two from 1 to 4,096 that is at least x.
 fn round_up(x: u16) -> u16
     ensures { result ≡ power_above 12 x }
 {
-    let mut power = 1;
-    let mut found = 1;
-    for _i in 0..12u32 {
-        if x > power {
-            found = 2 * power;
-        }
-        power *= 2;
-    }
-    found
+    x.min(4096).next_power_of_two()
 }
 
 fn is_in_range(task: &Task) -> bool
@@ -71,7 +50,7 @@ fn row_of(task: &Task) -> Row
 fn are_alike(a: &Row, b: &Row) -> bool
     ensures { result ≡ alike a.now b.now }
 {
-    a.period == b.period && a.deadline == b.deadline && a.budget == b.budget
+    a.key() == b.key()
 }
 
 // The copies of a row that is like this one, 0 of another.
@@ -80,7 +59,7 @@ fn copies_like(row: &Row, held: &Row) -> u64
     ensures few { result ≤ 65535 }
 {
     if are_alike(row, held) {
-        held.copies as u64
+        u64::from(held.copies)
     } else {
         0
     }
@@ -91,44 +70,27 @@ fn copies_held(row: &Row, rows: &[Row]) -> u64
     requires { length rows.now ≤ 8 }
     ensures { result ≡ copies_of row.now rows.now }
 {
-    let mut copies = 0;
-    for held in rows {
-        copies += copies_like(row, held);
-    }
-    copies
+    rows.iter().map(|held| copies_like(row, held)).sum()
 }
 
-// The two rows, the one that comes first in sheet order first.
-fn in_order(carried: Row, held: Row) -> (Row, Row)
-    ensures { (result.0 ≡ (if before carried held then carried else held)) × (result.1 ≡ (if before carried held then held else carried)) }
+// Puts a row among others that stand in sheet order: to the row that it is like, or to its place.
+fn place(row: Row, rows: &mut ArrayVec<Row, 8>)
+    requires ordered { Ascending rows.old.items }
+    requires room { length (placed row rows.old.items) ≤ 8 }
+    requires few_copies { (row.copies ≤ 16) × AllByRecursion (λ r. r.copies ≤ 16) rows.old.items }
+    ensures { rows.new.items ≡ placed row rows.old.items }
 {
-    if carried.comes_before(&held) {
-        (carried, held)
-    } else {
-        (held, carried)
+    match rows.binary_search_by_key(&row.key(), |held| held.key()) {
+        Ok(i) => rows[i].copies += row.copies,
+        Err(i) => rows.insert(i, row),
     }
 }
 
-// Puts a row among the first `len`, which stand in sheet order: to the row that it is like, or to its place. Answers how many
-// rows there are then.
-fn place(row: Row, rows: &mut [Row; 8], len: usize) -> usize
-    requires fits { (length (placed row (take len rows.old)) ≤ 8) × ((len ≤ 8) × (row.copies ≤ 16)) }
-    requires few_copies { (k : ℕ) → k < len → (slice_index_or rows.old k no_row).copies ≤ 16 }
-    ensures { (take result rows.new ≡ placed row (take len rows.old)) × (result ≡ length (placed row (take len rows.old))) }
+// The first task that is out of range, if any.
+fn first_out_of_range(tasks: &[Task]) -> Option<usize>
+    ensures { result ≡ position (λ t. not (task_sound t)) tasks.now }
 {
-    let mut carried = row;
-    for i in 0..len {
-        let held = rows[i];
-        if are_alike(&held, &carried) {
-            rows[i].copies = held.copies + carried.copies;
-            return len;
-        }
-        let (first, second) = in_order(carried, held);
-        rows[i] = first;
-        carried = second;
-    }
-    rows[len] = carried;
-    len + 1
+    tasks.iter().position(|task| !is_in_range(task))
 }
 
 // The list's size, then every task's range.
@@ -141,12 +103,10 @@ fn judge_tasks(tasks: &[Task]) -> Result<(), MakeRefusal>
     if tasks.len() > 64 {
         return Err(MakeRefusal::TaskOutOfRange(64));
     }
-    for (i, task) in tasks.iter().enumerate() {
-        if !is_in_range(task) {
-            return Err(MakeRefusal::TaskOutOfRange(i));
-        }
+    match first_out_of_range(tasks) {
+        Some(i) => Err(MakeRefusal::TaskOutOfRange(i)),
+        None => Ok(()),
     }
-    Ok(())
 }
 
 // Whether a task whose row this is would need a ninth row or a seventeenth copy.
@@ -159,36 +119,30 @@ fn is_crowded(row: &Row, rows: &[Row]) -> bool
 }
 
 // The rows of tasks that are in range.
-fn group_tasks(tasks: &[Task]) -> Result<TaskRows, MakeRefusal>
+fn group_tasks(tasks: &[Task]) -> Result<ArrayVec<Row, 8>, MakeRefusal>
     requires { tasks_in_range tasks.now ≡ Ok tt }
     ensures answer { meaning (λ _. tt {0}) result ≡ refused_by NoRoom (first_where (crowded (map rounded tasks.now)) 0 (length tasks.now)) }
-    ensures grouped { IfOk result (λ r. Grouped (map rounded tasks.now) (take r.len r.rows)) }
-    ensures sound { IfOk result (λ r. (r.len ≤ 8) × (sound_rows (take r.len r.rows) ≡ true)) }
+    ensures grouped { IfOk result (λ r. Grouped (map rounded tasks.now) r.items) }
+    ensures sound { IfOk result (λ r. (length r.items ≤ 8) × (sound_rows r.items ≡ true)) }
 {
-    let mut rows = [Row {
-        period: 0,
-        deadline: 0,
-        budget: 0,
-        copies: 0,
-    }; 8];
-    let mut len = 0;
+    let mut rows = ArrayVec::new();
     for (i, task) in tasks.iter().enumerate() {
         let row = row_of(task);
-        if is_crowded(&row, &rows[0..len]) {
+        if is_crowded(&row, rows.as_slice()) {
             return Err(MakeRefusal::NoRoom(i));
         }
-        len = place(row, &mut rows, len);
+        place(row, &mut rows);
     }
-    Ok(TaskRows { rows, len })
+    Ok(rows)
 }
 
 // The rows of a sheet for these tasks: rounded, grouped and counted, in sheet order. There are no other such rows, and the rules
 // accept them.
-pub fn rows_of_tasks(tasks: &[Task]) -> Result<TaskRows, MakeRefusal>
+pub fn rows_of_tasks(tasks: &[Task]) -> Result<ArrayVec<Row, 8>, MakeRefusal>
     ensures answer { meaning (λ _. tt {0}) result ≡ tasks_judged tasks.now }
-    ensures grouped { IfOk result (λ r. Grouped (map rounded tasks.now) (take r.len r.rows)) }
-    ensures no_other { IfOk result (λ r. (rs : List Row) → Grouped (map rounded tasks.now) rs → rs ≡ take r.len r.rows) }
-    ensures sound { IfOk result (λ r. (r.len ≤ 8) × (sound_rows (take r.len r.rows) ≡ true)) }
+    ensures grouped { IfOk result (λ r. Grouped (map rounded tasks.now) r.items) }
+    ensures no_other { IfOk result (λ r. (rs : List Row) → Grouped (map rounded tasks.now) rs → rs ≡ r.items) }
+    ensures sound { IfOk result (λ r. (length r.items ≤ 8) × (sound_rows r.items ≡ true)) }
 {
     judge_tasks(tasks)?;
     group_tasks(tasks)

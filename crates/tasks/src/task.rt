@@ -1,8 +1,10 @@
-ghost use Rattle.std.specs.Prelude.{◌≡◌};
-ghost use Rattle.tasks.specs.Tasks.{make_numbers};
+ghost use Rattle.std.specs.Prelude.{◌≡◌, Some};
+ghost use Rattle.tasks.specs.Tasks.{make_numbers, make_words};
 ghost use Rattle.std.proofs.Common.{rules};
 
 use demand::Refusal;
+use std::error::Error;
+use std::fmt;
 
 // One sporadic task as a supplier lists it: a job of at most `budget` units every `period` ticks at most, due `deadline` ticks
 // after its release.
@@ -45,3 +47,19 @@ impl Refusal for MakeRefusal {
         self.numbers().0
     }
 }
+
+// Why, in words.
+impl fmt::Display for MakeRefusal {
+    ghost output = { λ x. Some (make_words x) };
+
+    fn fmt<W: fmt::Write>(&self, f: &mut fmt::Formatter<W>) -> fmt::Result {
+        match self {
+            MakeRefusal::TaskOutOfRange(index) => write!(f, "task {index} is out of range"),
+            MakeRefusal::NoRoom(index) => {
+                write!(f, "task {index} needs a ninth row or a seventeenth copy")
+            }
+        }
+    }
+}
+
+impl Error for MakeRefusal {}
