@@ -1,8 +1,8 @@
 ghost use Rattle.std.specs.Prelude.{[], ◌∷◌};
-ghost use Rattle.sheets.specs.Sheets.{line, component_bound, component_gain};
+ghost use Rattle.sheets.specs.Sheets.{line, bound_of, gain_of, component_bound, component_gain};
 ghost use Rattle.sheets.proofs.Lawful.{sound_line_lawful, components_lawful};
-ghost use Rattle.sheets.proofs.Components.{past_bound, past_gain};
-ghost use Rattle.std.proofs.Common.{rules, arith};
+ghost use Rattle.sheets.proofs.Components.{past_value};
+ghost use Rattle.std.proofs.Common.{rules};
 
 use crate::sheet::LineSheet;
 use demand::Binder;
@@ -15,7 +15,7 @@ impl Binder for LineSheet {
 
     ghost gain = { λ x. component_gain (line x.line ∷ []) };
 
-    ghost few = { first_of (Prim.search rules, Prim.grind (arith, Self.row.coded.inj)) };
+    ghost few = { Prim.search rules };
 
     ghost starts = { λ x k. (components_lawful (line x.line ∷ []) (sound_line_lawful x.line x.sound, tt) k).starts };
 
@@ -25,9 +25,9 @@ impl Binder for LineSheet {
 
     ghost fits = { λ x k. (components_lawful (line x.line ∷ []) (sound_line_lawful x.line x.sound, tt) k).fits };
 
-    ghost absent = { λ x. past_bound (line x.line ∷ []) };
+    ghost absent = { λ x k l. past_value (λ d. bound_of d l) (line x.line ∷ []) k };
 
-    ghost still = { λ x. past_gain (line x.line ∷ []) };
+    ghost still = { λ x. past_value gain_of (line x.line ∷ []) };
 
     fn count(&self) -> u32 {
         1

@@ -24,17 +24,17 @@ impl LineSheet {
         ensures { result ≡ line_bound self.now.line length }
     {
         let line = self.line;
-        if length < line.deadline as u32 {
+        if length < u32::from(line.deadline) {
             return 0;
         }
-        line.burst as u64
-            + line.rate as u64 * (length as u64 - line.deadline as u64) / line.per as u64
+        let since = u64::from(length) - u64::from(line.deadline);
+        u64::from(line.burst) + u64::from(line.rate) * since / u64::from(line.per)
     }
 
     // The units that 4,096 further ticks add to the bound.
     pub fn gain_units(&self) -> u64
         ensures { result ≡ line_gain self.now.line }
     {
-        self.line.rate as u64 * 4096 / self.line.per as u64
+        u64::from(self.line.rate) * 4096 / u64::from(self.line.per)
     }
 }

@@ -1,9 +1,10 @@
 ghost use Rattle.sheets.specs.Kinds.{line_record};
 ghost use Rattle.sheets.specs.Sheets.{line};
-ghost use Rattle.std.proofs.Common.{rules, arith};
+ghost use Rattle.std.proofs.Common.{rules};
 
 use crate::making::sheet_of_line;
 use crate::sheet::LineSheet;
+use arrayvec::ArrayVec;
 use sheets::{FileFault, Line, RecordStart, SheetKind};
 
 impl SheetKind for LineSheet {
@@ -15,26 +16,26 @@ impl SheetKind for LineSheet {
 
     ghost judged = { line_record };
 
-    ghost named = { first_of (Prim.search rules, Prim.grind (arith, Self.row.coded.inj)) };
+    ghost named = { Prim.search rules };
 
-    ghost short = { first_of (Prim.search rules, Prim.grind (arith, Self.row.coded.inj)) };
+    ghost short = { Prim.search rules };
 
-    ghost slots = { first_of (Prim.search rules, Prim.grind (arith, Self.row.coded.inj)) };
+    ghost slots = { Prim.search rules };
 
     fn tag() -> u16 {
         Self::KIND
     }
 
     fn from_fields(fields: &[u16], start: RecordStart) -> Result<LineSheet, FileFault> {
-        let [deadline, burst, per, rate] = fields else {
+        let &[deadline, burst, per, rate] = fields else {
             return Err(FileFault::WrongLength(start.at(0)));
         };
         sheet_of_line(
             Line {
-                deadline: *deadline,
-                burst: *burst,
-                per: *per,
-                rate: *rate,
+                deadline,
+                burst,
+                per,
+                rate,
             },
             start,
         )
@@ -44,10 +45,12 @@ impl SheetKind for LineSheet {
         4
     }
 
-    fn put_fields(&self, out: &mut [u16; 40]) {
-        out[0] = self.line.deadline;
-        out[1] = self.line.burst;
-        out[2] = self.line.per;
-        out[3] = self.line.rate;
+    fn fields(&self) -> ArrayVec<u16, 40> {
+        let mut fields = ArrayVec::new();
+        fields.push(self.line.deadline);
+        fields.push(self.line.burst);
+        fields.push(self.line.per);
+        fields.push(self.line.rate);
+        fields
     }
 }

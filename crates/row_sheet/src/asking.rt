@@ -1,9 +1,9 @@
 ghost use Rattle.std.specs.Prelude.{[], ◌∷◌};
-ghost use Rattle.sheets.specs.Sheets.{rows, component_bound, component_gain};
+ghost use Rattle.sheets.specs.Sheets.{rows, bound_of, gain_of, component_bound, component_gain};
 ghost use Rattle.row_sheet.specs.RowSheets.{sheet_rows};
 ghost use Rattle.sheets.proofs.Lawful.{sound_rows_lawful, components_lawful};
-ghost use Rattle.sheets.proofs.Components.{past_bound, past_gain};
-ghost use Rattle.std.proofs.Common.{rules, arith};
+ghost use Rattle.sheets.proofs.Components.{past_value};
+ghost use Rattle.std.proofs.Common.{rules};
 
 use crate::sheet::RowSheet;
 use demand::Binder;
@@ -16,7 +16,7 @@ impl Binder for RowSheet {
 
     ghost gain = { λ x. component_gain (rows (sheet_rows x) ∷ []) };
 
-    ghost few = { first_of (Prim.search rules, Prim.grind (arith, Self.row.coded.inj)) };
+    ghost few = { Prim.search rules };
 
     ghost starts = { λ x k. (components_lawful (rows (sheet_rows x) ∷ []) (sound_rows_lawful (sheet_rows x) x.sound, tt) k).starts };
 
@@ -26,9 +26,9 @@ impl Binder for RowSheet {
 
     ghost fits = { λ x k. (components_lawful (rows (sheet_rows x) ∷ []) (sound_rows_lawful (sheet_rows x) x.sound, tt) k).fits };
 
-    ghost absent = { λ x. past_bound (rows (sheet_rows x) ∷ []) };
+    ghost absent = { λ x k l. past_value (λ d. bound_of d l) (rows (sheet_rows x) ∷ []) k };
 
-    ghost still = { λ x. past_gain (rows (sheet_rows x) ∷ []) };
+    ghost still = { λ x. past_value gain_of (rows (sheet_rows x) ∷ []) };
 
     fn count(&self) -> u32 {
         1

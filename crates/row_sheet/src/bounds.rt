@@ -7,22 +7,21 @@ use crate::sheet::RowSheet;
 use sheets::Row;
 
 fn row_bound(row: &Row, length: u32) -> u64
-    requires { (1 ≤ row.now.period) × ((row.now.budget ≤ 4096) × (row.now.copies ≤ 16)) }
+    requires { (1 ≤ row.now.period) × (row.now.budget ≤ 4096) × (row.now.copies ≤ 16) }
     ensures { result ≡ row_bound row.now length }
 {
-    if length < row.deadline as u32 {
+    if length < u32::from(row.deadline) {
         return 0;
     }
-    row.copies as u64
-        * row.budget as u64
-        * ((length as u64 - row.deadline as u64) / row.period as u64 + 1)
+    let since = u64::from(length) - u64::from(row.deadline);
+    u64::from(row.copies) * u64::from(row.budget) * (since / u64::from(row.period) + 1)
 }
 
 fn row_gain(row: &Row) -> u64
-    requires { (1 ≤ row.now.period) × ((row.now.budget ≤ 4096) × (row.now.copies ≤ 16)) }
+    requires { (1 ≤ row.now.period) × (row.now.budget ≤ 4096) × (row.now.copies ≤ 16) }
     ensures { result ≡ row_gain row.now }
 {
-    row.copies as u64 * row.budget as u64 * 4096 / row.period as u64
+    u64::from(row.copies) * u64::from(row.budget) * 4096 / u64::from(row.period)
 }
 
 impl RowSheet {
@@ -47,23 +46,13 @@ impl RowSheet {
         ensures value { result ≡ rows_bound (sheet_rows self.now) length }
         ensures most_sporadic_work { MostWork (sheet_rows self.now) length result }
     {
-        let rows = self.rows();
-        let mut units = 0;
-        for row in rows {
-            units += row_bound(row, length);
-        }
-        units
+        self.rows().iter().map(|row| row_bound(row, length)).sum()
     }
 
     // The units that 4,096 further ticks add to the bound.
     pub fn gain_units(&self) -> u64
         ensures { result ≡ rows_gain (sheet_rows self.now) }
     {
-        let rows = self.rows();
-        let mut units = 0;
-        for row in rows {
-            units += row_gain(row);
-        }
-        units
+        self.rows().iter().map(row_gain).sum()
     }
 }

@@ -1,5 +1,5 @@
-ghost use Rattle.std.specs.Prelude.{◌≡◌, ◌≤◌, List, map, Ok, Err};
-ghost use Rattle.sheets.specs.Rows.{row_fields, in_order, row_judged, rows_judged};
+ghost use Rattle.std.specs.Prelude.{◌≡◌, ◌≤◌, true, List, map, length, Ok, Err};
+ghost use Rattle.sheets.specs.Rows.{row_fields, in_order, row_judged, rows_judged, sound_rows};
 ghost use Rattle.sheets.specs.Faults.{then, meaning};
 ghost use Rattle.row_sheet.specs.RowSheets.{sheet_rows};
 ghost use Rattle.sheets.specs.declared.fault.FileFault.{FileFault};
@@ -9,7 +9,7 @@ ghost use Rattle.tasks.specs.declared.task.MakeRefusal.{MakeRefusal};
 
 use crate::sheet::RowSheet;
 use sheets::{FileFault, Location, RecordStart, Row, accept, is_power, lies_in};
-use tasks::{MakeRefusal, Task, TaskRows, rows_of_tasks};
+use tasks::{MakeRefusal, Task, rows_of_tasks};
 
 // The row's fields in file order, the row being `offset` bytes into its record.
 fn judge_fields(row: &Row, start: RecordStart, offset: u32) -> Result<(), FileFault>
@@ -26,14 +26,8 @@ fn judge_order(last: Option<Row>, row: &Row, at: Location) -> Result<(), FileFau
     ensures { result ≡ in_order last row.now at }
 {
     match last {
-        None => Ok(()),
-        Some(before) => {
-            if before.comes_before(row) {
-                Ok(())
-            } else {
-                Err(FileFault::OutOfOrder(at))
-            }
-        }
+        Some(before) if !before.comes_before(row) => Err(FileFault::OutOfOrder(at)),
+        _ => Ok(()),
     }
 }
 
@@ -50,15 +44,13 @@ fn judge_row(last: Option<Row>, row: &Row, start: RecordStart, offset: u32) -> R
 fn judge_rows(rows: &[Row], start: RecordStart) -> Result<(), FileFault>
     ensures { result ≡ rows_judged rows.now start }
 {
-    if rows.len() < 1 || rows.len() > 8 {
+    if !(1..=8).contains(&rows.len()) {
         return Err(FileFault::WrongLength(start.at(0)));
     }
-    let mut offset = 4u32;
     let mut last = None;
-    for row in rows {
-        judge_row(last, row, start, offset)?;
+    for (i, row) in rows.iter().enumerate() {
+        judge_row(last, row, start, 4 + 8 * i as u32)?;
         last = Some(*row);
-        offset += 8;
     }
     Ok(())
 }
@@ -68,13 +60,21 @@ pub(crate) fn sheet_of_rows(rows: &[Row], start: RecordStart) -> Result<RowSheet
     ensures { meaning sheet_rows result ≡ then (rows_judged rows.now start) (λ _. Ok rows.now) }
 {
     judge_rows(rows, start)?;
-    let len = rows.len();
-    let mut held = RowSheet::BUILT_IN.rows;
-    held[0..len].copy_from_slice(rows);
-    Ok(RowSheet { rows: held, len })
+    Ok(RowSheet::holding(rows))
 }
 
 impl RowSheet {
+    // The sheet of these rows, which the rules accept.
+    fn holding(rows: &[Row]) -> RowSheet
+        requires { (length rows.now ≤ 8) × (sound_rows rows.now ≡ true) }
+        ensures { sheet_rows result ≡ rows.now }
+    {
+        let len = rows.len();
+        let mut held = RowSheet::BUILT_IN.rows;
+        held[0..len].copy_from_slice(rows);
+        RowSheet { rows: held, len }
+    }
+
     // Makes this the sheet of the given rows, or refuses them as a file of that record alone.
     pub fn make(&mut self, rows: &[Row]) -> Result<(), FileFault>
         ensures answer { result ≡ rows_judged rows.now (record { index = 0; place = 0 }) }
@@ -92,8 +92,8 @@ impl RowSheet {
         ensures no_other { result ≡ Ok tt → (rs : List Row) → Grouped (map rounded tasks.now) rs → rs ≡ sheet_rows self.new }
         ensures kept { (e : MakeRefusal) → result ≡ Err e → self.new ≡ self.old }
     {
-        let TaskRows { rows, len } = rows_of_tasks(tasks)?;
-        *self = RowSheet { rows, len };
+        let rows = rows_of_tasks(tasks)?;
+        *self = RowSheet::holding(rows.as_slice());
         Ok(())
     }
 }

@@ -1,8 +1,8 @@
-use Rattle.std.proofs.Common.{◌≡◌, ℕ, zero, suc, ◌+◌, ◌-◌, ◌*◌, ◌/◌, ◌^◌, ◌<◌, ◌≤◌, Bool, true, false, cond, ◌&&◌, eqb, ltb, leb, List, [], ◌∷◌, length, get_or, drop, is_ok, Some, None, Ok, Err, sum_by, Option, Result, sym, refl, ap, ◌∙◌, ⊎_elim, div-le_self, arith, pow_mono}
+use Rattle.std.proofs.Common.{◌≡◌, ℕ, zero, suc, ◌+◌, ◌-◌, ◌*◌, ◌/◌, ◌^◌, ◌<◌, ◌≤◌, Bool, true, false, cond, ◌&&◌, eqb, ltb, leb, List, [], ◌∷◌, length, get_or, drop, is_ok, Some, None, Ok, Err, sum_by, Option, Result, sym, refl, ap, subst, ◌∙◌, ⊎_elim, div-le_self, arith, pow_mono}
 use Rattle.std.specs.List.{AllByRecursion}
 use Rattle.std.proofs.lemmas.Bool.{cond-true, cond_both, and_from, and_parts, or_cases, le-leb, eqb-true}
 use Rattle.std.proofs.lemmas.Nat.{mul-le, pow_pos}
-use Rattle.std.proofs.ByRecursion.{All-weaker, sum_by_le}
+use Rattle.std.proofs.ByRecursion.{All-get_or, All-weaker, sum_by_le}
 use Rattle.std.proofs.lemmas.List.{at_drop_more}
 use Rattle.sheets.specs.declared.line.Line.{Line}
 use Rattle.sheets.specs.declared.row.Row.{Row}
@@ -152,3 +152,9 @@ row_bounds_fit rs l h a = sum_by_le (λ r. row_bound r l) (2 ^ 48) rs (All-weake
 
 pub row_gains_fit : (rs : List Row) → AllByRecursion Ranges rs → sum_by row_gain rs ≤ length rs * 2 ^ 48
 row_gains_fit rs a = sum_by_le row_gain (2 ^ 48) rs (All-weaker Ranges (λ r. row_gain r ≤ 2 ^ 48) row_gain_fits rs a)
+
+-- a row of the list is in its ranges
+pub ranges_at : (rs : List Row) → AllByRecursion Ranges rs → (k : ℕ) (r : Row) → k < length rs → r ≡ get_or rs k r → (1 ≤ r.period) × (r.budget ≤ 4096) × (r.copies ≤ 16)
+ranges_at rs a k r h e =
+    let g = subst Ranges (sym e) (All-get_or Ranges rs k r h a) in
+    (power_pos g.power, g.budget_high, g.copies_high)
