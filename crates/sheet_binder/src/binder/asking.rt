@@ -1,10 +1,10 @@
 ghost use Rattle.std.specs.Prelude.{length};
-ghost use Rattle.sheets.specs.Sheets.{component_bound, component_gain};
+ghost use Rattle.sheets.specs.Sheets.{bound_of, gain_of, component_bound, component_gain};
 ghost use Rattle.sheet_binder.specs.Declarations.{declarations, declared, sheets_of};
 ghost use Rattle.std.proofs.Common.{arith};
 ghost use Rattle.std.proofs.lemmas.List.{length-map, length-take};
 ghost use Rattle.sheet_binder.specs.Sheets.{sheets_lawful};
-ghost use Rattle.sheets.proofs.Components.{past_bound, past_gain};
+ghost use Rattle.sheets.proofs.Components.{past_value};
 
 use crate::binder::SheetBinder;
 use demand::Binder;
@@ -26,25 +26,25 @@ impl Binder for SheetBinder {
 
     ghost fits = { λ x k. (sheets_lawful (sheets_of x) k).fits };
 
-    ghost absent = { λ x. past_bound (declarations x) };
+    ghost absent = { λ x k l. past_value (λ d. bound_of d l) (declarations x) k };
 
-    ghost still = { λ x. past_gain (declarations x) };
+    ghost still = { λ x. past_value gain_of (declarations x) };
 
     fn count(&self) -> u32 {
         self.len as u32
     }
 
     fn bound(&self, k: u32, length: u32) -> u64 {
-        if k as usize >= self.len {
-            return 0;
+        match self.sheets().get(k as usize) {
+            Some(sheet) => sheet.bound_at(length),
+            None => 0,
         }
-        self.sheets[k as usize].bound_at(length)
     }
 
     fn gain(&self, k: u32) -> u64 {
-        if k as usize >= self.len {
-            return 0;
+        match self.sheets().get(k as usize) {
+            Some(sheet) => sheet.gain_units(),
+            None => 0,
         }
-        self.sheets[k as usize].gain_units()
     }
 }

@@ -1,13 +1,14 @@
-use Rattle.std.proofs.Common.{sym, ◌∙◌, arith}
-use Rattle.sheet_binder.specs.Declarations.{declarations}
-use Rattle.sheets.proofs.Components.{past_bound}
-use Rattle.sheet_binder.specs.Sheets.{length_declared, declared_bound}
+use Rattle.std.proofs.Common.{◌∙◌}
+use Rattle.sheets.specs.Sheets.{bound_of}
+use Rattle.sheet_binder.specs.Declarations.{sheets_of}
+use Rattle.sheet_binder.specs.Sheets.{value_shown, none_shown}
 use Rattle.sheet_binder.proofs.binder.asking.SheetBinderBinder.bound.Goals as goal
 
-pub returns-then-k-self : goal.returns-then-k-self
-returns-then-k-self c =
-    let n = length_declared c.args.self.now.sheets c.args.self.now.len (omega arith) in
-    sym (past_bound (declarations c.args.self.now) c.args.k c.args.length (omega (arith, n)))
+pub returns-in-Some : goal.returns-in-Some
+returns-in-Some c =
+    let l = c.in-Some.ensures.lookup in
+    c.bound_at.ensures ∙ value_shown (λ d. bound_of d c.args.length) c.sheets.result.now (sheets_of c.args.self.now) c.args.k c.in-Some.sheet.now c.sheets.ensures l.3.0 l.1
 
-pub returns : goal.returns
-returns c = c.bound_at.ensures ∙ declared_bound c.args.self.now.sheets c.args.self.now.len c.args.k c.args.length _ (omega arith) (omega arith)
+pub returns-in-None : goal.returns-in-None
+returns-in-None c =
+    none_shown (λ d. bound_of d c.args.length) c.sheets.result.now (sheets_of c.args.self.now) c.args.k c.sheets.ensures c.in-None.ensures.lookup.3
