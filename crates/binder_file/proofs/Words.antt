@@ -1,12 +1,11 @@
-use Rattle.std.proofs.Common.{◌≡◌, ℕ, zero, suc, ◌+◌, ◌-◌, ◌*◌, ◌/◌, ◌%◌, ◌<◌, true, false, eqb, List, [], ◌∷◌, ◌++◌, length, get_or, take, drop, Ok, Err, Result, sym, refl, ap, ◌∙◌, arith}
+use Rattle.std.proofs.Common.{◌≡◌, ℕ, zero, suc, ◌+◌, ◌-◌, ◌*◌, ◌/◌, ◌%◌, ◌<◌, true, false, eqb, List, [], ◌∷◌, ◌++◌, length, get_or, Ok, Err, Result, sym, refl, ap, ◌∙◌, arith}
 use Rattle.std.specs.List.{flat_map}
 use Rattle.std.proofs.lemmas.List.FromFn.{fill_by_all}
-use Rattle.std.proofs.lemmas.List.{get_or-append-add, get_or_append_left, length-append, append-nil, append_assoc, take_at}
+use Rattle.std.proofs.lemmas.List.{get_or-append-add, get_or_append_left, length-append, append-nil}
 use Rattle.std.proofs.lemmas.Bool.{cond-true, cond-false, and_from, or_from, le-leb, eq-eqb, le-ltb, ne_eqb}
 use Rattle.sheets.specs.declared.fault.RecordStart.{RecordStart}
 use Rattle.sheets.specs.declared.fault.FileFault.{FileFault}
 use Rattle.sheets.specs.Faults.{then, meaning}
-use Rattle.sheets.specs.Over.{over}
 use Rattle.sheets.specs.Sheets.{Declaration, rows, line}
 use Rattle.sheets.specs.Kinds.{rows_record, line_record, kind_of, fields_of, making_judged}
 use Rattle.sheets.proofs.Records.{rows_record_back, line_record_back}
@@ -110,18 +109,6 @@ only_answer (Err f) ds = refl
 
 pub alone_as_made : (bs : List ℕ) (d : Declaration) → bs ≡ record_bytes d → meaning (λ _. tt {0}) (decode bs) ≡ making_judged d first
 alone_as_made bs d e = ap (λ (r : Result (List Declaration) FileFault). meaning (λ _. tt {0}) r) (one_record bs d e) ∙ only_answer (making_judged d first) (d ∷ [])
-
--- the record of a sheet: its head, and then its fields
-pub record_parts : (first : List ℕ) (d : Declaration) (count tag : ℕ) (part : List ℕ) → count ≡ length (fields_of d) → kind_of d ≡ tag → part ≡ fields_of d → (first ++ flat_map word_bytes ((2 + 2 * count) ∷ tag ∷ [])) ++ flat_map word_bytes part ≡ first ++ record_bytes d
-record_parts first d count tag part n k p =
-    append_assoc first (flat_map word_bytes ((2 + 2 * count) ∷ tag ∷ [])) (flat_map word_bytes part)
-    ∙ ap (λ (l : List ℕ). first ++ l) (ap (λ (m : ℕ). flat_map word_bytes ((2 + 2 * m) ∷ tag ∷ []) ++ flat_map word_bytes part) n ∙ ap (λ (m : ℕ). flat_map word_bytes ((2 + 2 * length (fields_of d)) ∷ m ∷ []) ++ flat_map word_bytes part) (sym k) ∙ ap (λ (l : List ℕ). flat_map word_bytes ((2 + 2 * length (fields_of d)) ∷ kind_of d ∷ []) ++ flat_map word_bytes l) p)
-
--- the fields that were put into slots
-pub fields_put : (slots old fs : List ℕ) (count : ℕ) → slots ≡ over fs old → count ≡ length fs → take (count - 0) slots ≡ fs
-fields_put slots old fs count e n =
-    let z : count - 0 ≡ count = omega arith in
-    ap (λ (m : ℕ). take m slots) z ∙ ap (λ (l : List ℕ). take count l) e ∙ take_at fs (drop (length fs) old) count (sym n)
 
 -- and where it is accepted, that sheet is all there is
 accepted_one : (m : Result (Unit {0}) FileFault) (d : Declaration) (ds : List Declaration) → Ok ds ≡ then m (λ _. Ok (d ∷ [])) → ds ≡ d ∷ []
