@@ -3,12 +3,12 @@ use Rattle.std.proofs.lemmas.Bool.{cond-true, cond-false, cases_Bool, eqb-false,
 use Rattle.sheets.specs.declared.fault.RecordStart.{RecordStart}
 use Rattle.sheets.specs.declared.fault.FileFault.{FileFault}
 use Rattle.sheets.specs.declared.fault.FileFault.TheVariants.{RecordCount}
-use Rattle.sheets.specs.Faults.{spot, then, meaning, value_or, fault_numbers}
+use Rattle.sheets.specs.Faults.{spot, then, fault_numbers}
 use Rattle.sheets.specs.Sheets.{Declaration, component_bound, component_gain}
 use Rattle.demand.proofs.Admitted.{numbers_fit}
 use Rattle.sheets.proofs.Inverting.{then_went, not_caught, same_ok}
 use Rattle.sheets.proofs.Places.{Near, near_then, near_then_so, near_cond, rows_near, line_near}
-use Rattle.binder_file.specs.Boot.{verdict_on, boot_parts}
+use Rattle.binder_file.specs.Boot.{verdict_on}
 use Rattle.binder_file.specs.Format.{fields_at, length_at, kind_at, ends_inside, whole_fields, record_judged, next_start, records_from, decode}
 use Rattle.binder_file.proofs.Rewriting.{record_accepted}
 
@@ -71,16 +71,8 @@ file_counted bs ds e =
     let c = count_most 8 bs (record { index = 0; place = 0 }) ds p.1 in
     (c.1 (omega (arith, eqb-false (length bs) 0 p.0)), c.0)
 
--- a read that went well read those sheets
-pub read_went : (r : Result (List Declaration) FileFault) (old ds : List Declaration) → Ok (tt {0}) ≡ meaning (λ _. tt {0}) r → ds ≡ value_or r old → r ≡ Ok ds
-read_went (Ok xs) old ds a e = ap (λ (l : List Declaration). Ok l) (sym e)
-read_went (Err f) old ds a e = let z : ◌≡◌ {A = ℕ} 0 1 = cc in absurd (omega arith)
-
--- what boot code is told of a file whose verdict is v
-pub parts_told : (bs : List ℕ) (ds : List Declaration) (v : ℕ × ℕ) → decode bs ≡ Ok ds → v ≡ verdict_on ds → (boot_parts (decode bs) ≡ v) × (v.0 ≤ 9) × (v.1 ≤ 8192)
-parts_told bs ds v e q =
+-- the verdict on the sheets of an accepted file fits the number for boot code
+pub verdict_fits : (bs : List ℕ) (ds : List Declaration) → decode bs ≡ Ok ds → ((verdict_on ds).0 ≤ 9) × ((verdict_on ds).1 ≤ 8192)
+verdict_fits bs ds e =
     let c = file_counted bs ds e in
-    let f = numbers_fit (length ds) (component_bound ds) (component_gain ds) c.0 c.1 in
-    let n = ap (λ (p : ℕ × ℕ). p.0) q in
-    let l = ap (λ (p : ℕ × ℕ). p.1) q in
-    (ap (λ (r : Result (List Declaration) FileFault). boot_parts r) e ∙ sym q, omega (arith, f.0, n), omega (arith, f.1, l))
+    numbers_fit (length ds) (component_bound ds) (component_gain ds) c.0 c.1
