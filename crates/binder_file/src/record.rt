@@ -1,4 +1,4 @@
-ghost use Rattle.std.specs.Prelude.{◌≡◌, ◌+◌, ◌-◌, ◌/◌, ◌<◌, ◌≤◌, true, false, length, Err, IfSome, IfNone, IfOk, IfErr};
+ghost use Rattle.std.specs.Prelude.{◌≡◌, ◌+◌, ◌-◌, ◌*◌, ◌/◌, ◌<◌, ◌≤◌, true, false, length, Err, IfSome, IfNone, IfOk, IfErr};
 ghost use Rattle.binder_file.specs.Format.{word_at, fields_at, length_at, kind_at, whole_fields, body_judged, record_judged, next_start};
 ghost use Rattle.sheets.specs.Faults.{meaning};
 ghost use Rattle.sheet_binder.specs.Declarations.{declared};
@@ -94,7 +94,7 @@ impl<'a> Record<'a> {
 
     // Where the record behind this one begins.
     pub(crate) fn following(&self) -> RecordStart
-        requires { (self.now.start.index < 8) × (self.now.start.place ≤ 600000) }
+        requires { (self.now.start.index < 8) × (self.now.start.place ≤ 65537 * self.now.start.index) }
         ensures { result ≡ next_start self.now.file.now self.now.start }
     {
         RecordStart {
