@@ -1,6 +1,6 @@
-use Rattle.std.proofs.Common.{◌≡◌, ℕ, zero, suc, ◌+◌, ◌≤◌, List, [], ◌∷◌, ◌++◌, map, length, Ok, Result, sym, refl, ap, ◌∙◌, arith}
+use Rattle.std.proofs.Common.{◌≢◌, take, ◌≡◌, ℕ, zero, suc, ◌+◌, ◌≤◌, List, [], ◌∷◌, ◌++◌, map, length, Ok, Result, sym, refl, ap, ◌∙◌, arith}
 use Rattle.std.specs.List.{AllByRecursion}
-use Rattle.std.proofs.lemmas.List.{append_assoc, append-nil, length-append, length-map}
+use Rattle.std.proofs.lemmas.List.{take_at, length-take, append_assoc, append-nil, length-append, length-map}
 use Rattle.std.proofs.lemmas.Bool.{ne_eqb}
 use Rattle.sheets.specs.declared.fault.RecordStart.{RecordStart}
 use Rattle.sheets.specs.declared.fault.FileFault.{FileFault}
@@ -8,7 +8,8 @@ use Rattle.sheet_binder.specs.declared.sheet.Sheet.{Sheet}
 use Rattle.sheets.specs.Faults.{then}
 use Rattle.sheets.specs.Kinds.{making_judged}
 use Rattle.sheets.specs.Sheets.{Declaration}
-use Rattle.sheet_binder.specs.Declarations.{declared}
+use Rattle.sheet_binder.specs.Declarations.{declared, sheets_of, declarations}
+use Rattle.sheet_binder.specs.declared.binder.SheetBinder.{SheetBinder}
 use Rattle.sheets.proofs.Faults.{then_ok}
 use Rattle.sheet_binder.specs.Sheets.{sheet_accepted}
 use Rattle.binder_file.specs.Format.{next_start, records_from, record_judged, decode, record_words, record_bytes}
@@ -47,7 +48,13 @@ some_bytes [] h = absurd (omega arith)
 some_bytes (s ∷ ss) h = omega (arith, length-append (record_bytes (declared s)) (encode (map declared ss)), length_words (record_words (declared s)))
 
 -- the file of one to eight sheets reads back as those sheets
-pub file_back : (ss : List Sheet) → 1 ≤ length ss → length ss ≤ 8 → decode (encode (map declared ss)) ≡ Ok (map declared ss)
+file_back : (ss : List Sheet) → 1 ≤ length ss → length ss ≤ 8 → decode (encode (map declared ss)) ≡ Ok (map declared ss)
 file_back ss low high =
     decode_some (encode (map declared ss)) (ne_eqb (length (encode (map declared ss))) 0 (λ z. omega (arith, z, some_bytes ss low)))
     ∙ records_back [] (map declared ss) (record { index = 0; place = 0 }) 8 refl (omega (arith, length-map ss declared)) (all_accepted ss)
+
+-- and so does that of a binder, at the front of a buffer
+pub buffer_back : (b : SheetBinder) (file behind : List ℕ) (count : ℕ) → length (sheets_of b) ≢ 0 → file ≡ encode (declarations b) → count ≡ length file → decode (take count (file ++ behind)) ≡ Ok (declarations b)
+buffer_back b file behind count some e n =
+    ap decode (take_at file behind count (sym n) ∙ e)
+    ∙ file_back (sheets_of b) (omega arith) (omega (arith, b.few, length-take b.len b.sheets))

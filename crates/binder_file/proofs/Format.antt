@@ -104,6 +104,9 @@ module _ (bs : List ℕ) (start : RecordStart) (before : List Declaration) (so :
         so ∙ ap (meaning (λ ds. before ++ ds)) (further few ∙ then_ok (record_judged bs start) d _ e)
         ∙ carry before d (records_from (8 - (start.index + 1)) bs (next_start bs start))
 
+-- where reading ends
+pub ruleset ends = (all_read, ninth_read)
+
 -- a file with bytes
 pub decode_some : (bs : List ℕ) → eqb (length bs) 0 ≡ false → decode bs ≡ records_from 8 bs (record { index = 0; place = 0 })
 decode_some bs h = cond-false (eqb (length bs) 0) _ _ h

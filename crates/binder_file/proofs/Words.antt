@@ -5,7 +5,7 @@ use Rattle.std.proofs.lemmas.List.{get_or-append-add, get_or_append_left, length
 use Rattle.std.proofs.lemmas.Bool.{cond-true, cond-false, and_from, or_from, le-leb, eq-eqb, le-ltb, ne_eqb}
 use Rattle.sheets.specs.declared.fault.RecordStart.{RecordStart}
 use Rattle.sheets.specs.declared.fault.FileFault.{FileFault}
-use Rattle.sheets.specs.Faults.{then, meaning}
+use Rattle.sheets.specs.Faults.{then}
 use Rattle.sheets.specs.Sheets.{Declaration, rows, line}
 use Rattle.sheets.specs.Kinds.{rows_record, line_record, kind_of, fields_of, making_judged}
 use Rattle.sheets.proofs.Records.{rows_record_back, line_record_back}
@@ -103,17 +103,21 @@ one_record bs d e =
     ∙ record_first 7 f first (omega (arith, n))
     ∙ alone (record_judged f first) (making_judged d first) d (records_from 7 f (next_start f first)) (record_back [] [] d first refl) z
 
-only_answer : (m : Result (Unit {0}) FileFault) (ds : List Declaration) → meaning (λ _. tt {0}) (then m (λ _. Ok ds)) ≡ m
-only_answer (Ok tt) ds = refl
-only_answer (Err f) ds = refl
+-- so the file is refused as making is, or declares that sheet alone
+refused_one : (m : Result (Unit {0}) FileFault) (ds : List Declaration) (f : FileFault) → then m (λ _. Ok ds) ≡ Err f → m ≡ Err f
+refused_one (Ok tt) ds f e = let z : ◌≡◌ {A = ℕ} 0 1 = cc in absurd (omega arith)
+refused_one (Err g) ds f e = cc
 
-pub alone_as_made : (bs : List ℕ) (d : Declaration) → bs ≡ record_bytes d → meaning (λ _. tt {0}) (decode bs) ≡ making_judged d first
-alone_as_made bs d e = ap (λ (r : Result (List Declaration) FileFault). meaning (λ _. tt {0}) r) (one_record bs d e) ∙ only_answer (making_judged d first) (d ∷ [])
+pub alone_refused : (bs : List ℕ) (d : Declaration) (f : FileFault) → bs ≡ record_bytes d → decode bs ≡ Err f → making_judged d first ≡ Err f
+alone_refused bs d f e g = refused_one (making_judged d first) (d ∷ []) f (sym (one_record bs d e) ∙ g)
 
--- and where it is accepted, that sheet is all there is
-accepted_one : (m : Result (Unit {0}) FileFault) (d : Declaration) (ds : List Declaration) → Ok ds ≡ then m (λ _. Ok (d ∷ [])) → ds ≡ d ∷ []
-accepted_one (Ok u) d ds e = cc
+accepted_one : (m : Result (Unit {0}) FileFault) (d : Declaration) (ds : List Declaration) → then m (λ _. Ok (d ∷ [])) ≡ Ok ds → (m ≡ Ok tt) × (ds ≡ d ∷ [])
+accepted_one (Ok tt) d ds e = (refl, cc)
 accepted_one (Err f) d ds e = let z : ◌≡◌ {A = ℕ} 0 1 = cc in absurd (omega arith)
 
-pub alone_declares : (bs : List ℕ) (d : Declaration) (ds : List Declaration) → bs ≡ record_bytes d → decode bs ≡ Ok ds → ds ≡ d ∷ []
-alone_declares bs d ds e f = accepted_one (making_judged d first) d ds (sym f ∙ one_record bs d e)
+module _ (bs : List ℕ) (d : Declaration) (ds : List Declaration) (e : bs ≡ record_bytes d) (f : decode bs ≡ Ok ds) where
+  pub alone_accepted : making_judged d first ≡ Ok tt
+  alone_accepted = (accepted_one (making_judged d first) d ds (sym (one_record bs d e) ∙ f)).0
+
+  pub alone_declares : ds ≡ d ∷ []
+  alone_declares = (accepted_one (making_judged d first) d ds (sym (one_record bs d e) ∙ f)).1

@@ -12,6 +12,7 @@ use sheet_binder::SheetBinder;
 use sheets::{FileFault, RecordStart};
 
 // The binder of the file's sheets.
+#[tactic(auto, using(crate::proofs::Format::ends))]
 pub(crate) fn read_sheets(bytes: &[u8]) -> Result<SheetBinder, FileFault>
     ensures { meaning declarations result ≡ decode bytes.now }
 {

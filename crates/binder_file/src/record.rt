@@ -54,6 +54,7 @@ impl<'a> Record<'a> {
     }
 
     // The fields, where the record has a kind and at most 40 whole fields.
+    #[tactic(auto, using(crate::proofs::Format::fields_more))]
     fn fields(&self) -> Option<ArrayVec<u16, 40>>
         ensures read { let n = length_at self.now.file.now self.now.start in IfSome result (λ fields. (whole_fields n ≡ true) × (fields.items ≡ fields_at self.now.file.now (self.now.start.place + 4) ((n - 2) / 2))) }
         ensures refused { let n = length_at self.now.file.now self.now.start in IfNone result (whole_fields n ≡ true → 40 < (n - 2) / 2) }
@@ -72,6 +73,7 @@ impl<'a> Record<'a> {
     }
 
     // The sheet in the record's body, if that is one of the kind S.
+    #[tactic(auto, using(crate::proofs::Format::body_refused))]
     fn body<S: SheetKind>(&self) -> Result<S, FileFault>
         ensures { meaning S.SheetKind.declares result ≡ body_judged S.SheetKind.judged self.now.file.now self.now.start }
     {

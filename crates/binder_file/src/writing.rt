@@ -72,6 +72,7 @@ fn file_of(sheets: &[Sheet]) -> FileBytes
 
 // Writes the binder's file into the first bytes of the buffer and answers its size, or refuses and leaves the buffer. What is
 // written reads back as the same sheets.
+#[tactic(auto, using(crate::proofs::Encoding::buffer_back))]
 pub fn write_file(binder: &SheetBinder, buffer: &mut [u8]) -> Result<usize, WriteRefusal>
     ensures answer { result ≡ write_judged (declarations binder.now) (length buffer.old) }
     ensures written { (count : ℕ) → result ≡ Ok count → buffer.new ≡ over (encode (declarations binder.now)) buffer.old }

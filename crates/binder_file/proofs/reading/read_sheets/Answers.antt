@@ -2,20 +2,13 @@ use Rattle.std.proofs.Common.{◌+◌, List, length, Err, Result, sym, ap, ◌�
 use Rattle.std.proofs.lemmas.List.{length_push}
 use Rattle.std.proofs.lemmas.Result.{err_from_is_err_and}
 use Rattle.sheets.specs.declared.fault.FileFault.{FileFault}
-use Rattle.sheets.specs.declared.fault.FileFault.TheVariants.{RecordCount}
 use Rattle.sheets.specs.declared.fault.RecordStart.{RecordStart}
-use Rattle.sheets.specs.declared.fault.Location.{Location}
 use Rattle.sheet_binder.specs.declared.binder.SheetBinder.{SheetBinder}
 use Rattle.sheets.specs.Faults.{meaning}
 use Rattle.sheets.specs.Sheets.{Declaration}
 use Rattle.sheet_binder.specs.Declarations.{declared, declarations}
-use Rattle.binder_file.proofs.Format.{all_read, ninth_read, fault_read, sheet_read}
+use Rattle.binder_file.proofs.Format.{fault_read, sheet_read}
 use Rattle.binder_file.proofs.reading.read_sheets.Goals as goal
-
-pub returns-then-start-eq8 : goal.returns-then-start-eq8
-returns-then-start-eq8 c =
-    ap (λ (at : Location). Err (RecordCount at)) c.at-then-start-eq8.ensures
-    ∙ sym (ninth_read c.args.bytes.now c.loop-start.start _ c.loop-start.invariant.read (omega arith) (omega arith))
 
 pub returns-in_err-record : goal.returns-in_err-record
 returns-in_err-record c =
@@ -26,7 +19,6 @@ returns-in_err-record c =
 pub returns-in_err-sheet : goal.returns-in_err-sheet
 returns-in_err-sheet c =
     let p = err_from_is_err_and c.from_residual-in_err-sheet.result c.from_residual-in_err-sheet.ensures.1 in
-    let r = c.in_ok-record.record in
     let found = c.in_ok-record.ensures.found in
     let judged = sym c.in_err-sheet.ensures in
     ap (λ (r : Result SheetBinder FileFault). meaning declarations r) p.1 ∙ ap (λ (f : FileFault). Err f) p.2
@@ -50,6 +42,3 @@ loop-start-preserved c =
       few = omega (arith, ap (λ (s : RecordStart). s.index) next);
       near = omega (arith, ap (λ (s : RecordStart). s.index) next, ap (λ (s : RecordStart). s.place) next, c.type_inv.bytes start.place, c.type_inv.bytes (start.place + 1));
     }
-
-pub returns : goal.returns
-returns c = sym (all_read c.args.bytes.now c.loop-start.start _ c.loop-start.invariant.read (omega arith))
