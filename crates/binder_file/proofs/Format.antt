@@ -1,14 +1,15 @@
-use Rattle.std.proofs.Common.{◌≡◌, ℕ, zero, suc, ◌+◌, ◌-◌, ◌*◌, ◌/◌, ◌<◌, ◌≤◌, Bool, cond, true, false, eqb, ltb, get_or, take, drop, List, [], ◌∷◌, ◌++◌, length, Ok, Err, Result, sym, refl, ap, ◌∙◌, add-one, arith}
+use Rattle.std.proofs.Common.{◌⊎◌, inl, inr, ⊎_elim, ◌≡◌, ℕ, zero, suc, ◌+◌, ◌-◌, ◌*◌, ◌/◌, ◌<◌, ◌≤◌, Bool, cond, true, false, eqb, ltb, get_or, take, drop, List, [], ◌∷◌, ◌++◌, length, Ok, Err, Result, sym, refl, ap, ◌∙◌, add-one, arith}
 use Rattle.std.proofs.lemmas.List.FromFn.{length-map-range_with_len, map-range_with_len_more}
 use Rattle.std.specs.Simd.{first_chunks}
 use Rattle.std.proofs.lemmas.List.{append_assoc, append-nil, drop-drop, get_or-drop, get_or-take, length-take}
-use Rattle.std.proofs.lemmas.Bool.{cond-true, cond-false, lt-ltb, le-ltb}
+use Rattle.std.proofs.lemmas.Bool.{cond-true, cond-false, lt-ltb, le-ltb, ltb-false, cases_Bool}
 use Rattle.sheets.specs.declared.fault.RecordStart.{RecordStart}
 use Rattle.sheets.specs.declared.fault.FileFault.{FileFault}
 use Rattle.sheets.specs.declared.fault.FileFault.TheVariants.{WrongLength, RecordCount}
 use Rattle.sheets.specs.Faults.{spot, then, meaning}
 use Rattle.sheets.specs.Sheets.{Declaration}
 use Rattle.sheets.proofs.Faults.{then_ok, then_err}
+use Rattle.sheets.proofs.Inverting.{then_went, not_caught, same_ok}
 use Rattle.binder_file.specs.Format.{word_at, fields_at, length_at, whole_fields, body_judged, record_judged, next_start, records_from, decode}
 
 pub length_fields : (bs : List ℕ) (place n : ℕ) → length (fields_at bs place n) ≡ n
@@ -67,6 +68,35 @@ pub record_first : (most : ℕ) (bs : List ℕ) (start : RecordStart) → start.
 unfolding records_from
 record_first most bs start h =
     ap (λ n. records_from n bs start) (add-one most) ∙ cond-true (ltb start.place (length bs)) _ _ (lt-ltb start.place (length bs) h)
+
+-- accepted records: none is left, or one with its sheet, and then the others
+abbrev pub Ended : List ℕ → RecordStart → List Declaration → Type 0
+Ended bs start ds = (length bs ≤ start.place) × (ds ≡ [])
+
+pub record First (most : ℕ) (bs : List ℕ) (start : RecordStart) (ds : List Declaration) : Type 0 where
+  pub sheet : Declaration
+  pub others : List Declaration
+  pub judged : record_judged bs start ≡ Ok sheet
+  pub rest : records_from most bs (next_start bs start) ≡ Ok others
+  pub all : ds ≡ sheet ∷ others
+
+pub none_left : (bs : List ℕ) (start : RecordStart) (ds : List Declaration) → records_from zero bs start ≡ Ok ds → Ended bs start ds
+unfolding records_from
+none_left bs start ds e =
+    let p = not_caught (ltb start.place (length bs)) (Ok []) (RecordCount (spot start 0)) ds e in
+    (ltb-false start.place (length bs) p.0, sym (same_ok [] ds p.1))
+
+pub first_left : (most : ℕ) (bs : List ℕ) (start : RecordStart) (ds : List Declaration) → records_from (suc most) bs start ≡ Ok ds → Ended bs start ds ⊎ First most bs start ds
+unfolding records_from
+first_left most bs start ds e =
+    let rest = λ (d : Declaration). then (records_from most bs (next_start bs start)) (λ xs. Ok (d ∷ xs)) in
+    ⊎_elim (λ (t : ltb start.place (length bs) ≡ true).
+    let p = then_went (record_judged bs start) rest ds (sym (cond-true (ltb start.place (length bs)) _ _ t) ∙ e) in
+    let r = then_went (records_from most bs (next_start bs start)) (λ xs. Ok (p.0 ∷ xs)) ds p.2 in
+    inr (record { sheet = p.0; others = r.0; judged = p.1; rest = r.1; all = sym (same_ok (p.0 ∷ r.0) ds r.2) }))
+    (λ (f : ltb start.place (length bs) ≡ false).
+    inl (ltb-false start.place (length bs) f, sym (same_ok [] ds (sym (cond-false (ltb start.place (length bs)) (then (record_judged bs start) rest) (Ok []) f) ∙ e))))
+    (cases_Bool (ltb start.place (length bs)))
 
 carry : (before : List Declaration) (d : Declaration) (r : Result (List Declaration) FileFault) → meaning (λ ds. before ++ ds) (then r (λ ds. Ok (d ∷ ds))) ≡ meaning (λ ds. (before ++ d ∷ []) ++ ds) r
 carry before d (Ok ds) = ap Ok (sym (append_assoc before (d ∷ []) ds))
