@@ -2,6 +2,7 @@ use Rattle.std.proofs.Common.{◌⊎◌, inl, inr, ⊎_elim, ◌≡◌, ℕ, zer
 use Rattle.std.proofs.lemmas.List.FromFn.{length-map-range_with_len, map-range_with_len_more}
 use Rattle.std.specs.Simd.{first_chunks}
 use Rattle.std.proofs.lemmas.List.{append_assoc, append-nil, drop-drop, get_or-drop, get_or-take, length-take}
+use Rattle.std.proofs.lemmas.Grind.{common_steps}
 use Rattle.std.proofs.lemmas.Bool.{cond-true, cond-false, lt-ltb, le-ltb, ltb-false, cases_Bool}
 use Rattle.sheets.specs.declared.fault.RecordStart.{RecordStart}
 use Rattle.sheets.specs.declared.fault.FileFault.{FileFault}
@@ -24,11 +25,7 @@ chunk_at (suc k) (suc i) xs h =
     chunk_at k i (drop 2 xs) (omega arith) ∙ ap (take 2) (drop-drop (2 * i) 2 xs) ∙ ap (λ (n : ℕ). take 2 (drop n xs)) e
 
 pair_at : (bs : List ℕ) (a m k i j : ℕ) → i < k → 2 * k ≤ m → j < 2 → get_or (get_or (first_chunks 2 k (take m (drop a bs))) i []) j 0 ≡ get_or bs (a + (2 * i + j)) 0
-pair_at bs a m k i j h n two =
-    let body = take m (drop a bs) in
-    ap (λ (l : List ℕ). get_or l j 0) (chunk_at k i body h)
-    ∙ get_or-take 2 (drop (2 * i) body) j 0 two ∙ get_or-drop (2 * i) body j 0
-    ∙ get_or-take m (drop a bs) (2 * i + j) 0 (omega arith) ∙ get_or-drop a bs (2 * i + j) 0
+pair_at bs a m k i j h n two = rw chunk_at (grind (arith, common_steps))
 
 -- one field more is read from the pairs of a record's body
 module _ (bs : List ℕ) (pairs : List (List ℕ)) (a m i : ℕ) (cut : pairs ≡ first_chunks 2 (length (take m (drop a bs)) / 2) (take m (drop a bs))) (h : i < length (take m (drop a bs)) / 2) where

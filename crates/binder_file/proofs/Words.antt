@@ -1,5 +1,6 @@
 use Rattle.std.proofs.Common.{◌≡◌, ℕ, zero, suc, ◌+◌, ◌-◌, ◌*◌, ◌/◌, ◌%◌, ◌<◌, true, false, eqb, List, [], ◌∷◌, ◌++◌, length, get_or, Ok, Err, Result, sym, refl, ap, ◌∙◌, arith}
 use Rattle.std.specs.List.{flat_map}
+use Rattle.std.proofs.lemmas.Grind.{common_steps}
 use Rattle.std.proofs.lemmas.List.FromFn.{fill_by_all}
 use Rattle.std.proofs.lemmas.List.{get_or-append-add, get_or_append_left, length-append, append-nil}
 use Rattle.std.proofs.lemmas.Bool.{cond-true, cond-false, and_from, or_from, le-leb, eq-eqb, le-ltb, ne_eqb}
@@ -17,7 +18,7 @@ length_words [] = refl
 length_words (w ∷ ws) = omega (arith, length_words ws)
 
 behind : (w : ℕ) (bs : List ℕ) (k m : ℕ) → k ≡ 2 + m → get_or (word_bytes w ++ bs) k 0 ≡ get_or bs m 0
-behind w bs k m e = ap (λ x. get_or (word_bytes w ++ bs) x 0) e ∙ get_or-append-add (word_bytes w) bs m 0
+behind w bs k m e = grind (arith, common_steps)
 
 -- the i-th number of some, read back from their bytes
 word_back : (ws : List ℕ) (i : ℕ) → i < length ws → word_at (flat_map word_bytes ws) (2 * i) ≡ get_or ws i 0
@@ -29,13 +30,7 @@ word_back (w ∷ ws) (suc i) h =
 
 -- the same with other bytes before and behind
 word_inside : (before behind' ws : List ℕ) (k i : ℕ) → k ≡ length before + 2 * i → i < length ws → word_at (before ++ (flat_map word_bytes ws ++ behind')) k ≡ get_or ws i 0
-word_inside before behind' ws k i e h =
-    let bs = flat_map word_bytes ws in
-    let n = length_words ws in
-    let a : get_or (before ++ (bs ++ behind')) k 0 ≡ get_or bs (2 * i) 0 = ap (λ x. get_or (before ++ (bs ++ behind')) x 0) e ∙ get_or-append-add before (bs ++ behind') (2 * i) 0 ∙ get_or_append_left bs behind' 0 (2 * i) (omega arith) in
-    let f : k + 1 ≡ length before + (2 * i + 1) = omega arith in
-    let b : get_or (before ++ (bs ++ behind')) (k + 1) 0 ≡ get_or bs (2 * i + 1) 0 = ap (λ x. get_or (before ++ (bs ++ behind')) x 0) f ∙ get_or-append-add before (bs ++ behind') (2 * i + 1) 0 ∙ get_or_append_left bs behind' 0 (2 * i + 1) (omega arith) in
-    omega (arith, a, b, word_back ws i h)
+word_inside before behind' ws k i e h = grind (arith, common_steps, word_back ws i h, length_words ws)
 
 -- a record between other bytes
 module _ (before behind' : List ℕ) (d : Declaration) (start : RecordStart) (at : start.place ≡ length before) where
@@ -51,12 +46,7 @@ module _ (before behind' : List ℕ) (d : Declaration) (start : RecordStart) (at
       (λ k h. sym (word_inside before behind' (record_words d) (start.place + 4 + 2 * k) (suc (suc k)) (omega arith) (omega arith))))
 
   whole_back : ends_inside (before ++ (record_bytes d ++ behind')) start ≡ false
-  whole_back =
-      let n = length-append before (record_bytes d ++ behind') in
-      let m = length-append (record_bytes d) behind' in
-      let k = length_words (record_words d) in
-      or_from _ _ (le-ltb (length (before ++ (record_bytes d ++ behind'))) (start.place + 4) (omega (arith, n, m, k, at)))
-      (le-ltb (length (before ++ (record_bytes d ++ behind'))) (start.place + 2 + length_at (before ++ (record_bytes d ++ behind')) start) (omega (arith, n, m, k, at, length_back)))
+  whole_back = grind (arith, common_steps, length_back, length_words (record_words d))
 
   body_back : (judged : List ℕ → RecordStart → Result Declaration FileFault) → body_judged judged (before ++ (record_bytes d ++ behind')) start ≡ judged (fields_of d) start
   body_back judged =
@@ -89,8 +79,8 @@ abbrev first : RecordStart
 first = record { index = 0; place = 0 }
 
 alone : (r : Result Declaration FileFault) (m : Result (Unit {0}) FileFault) (d : Declaration) (rest : Result (List Declaration) FileFault) → r ≡ then m (λ _. Ok d) → rest ≡ Ok [] → then r (λ x. then rest (λ xs. Ok (x ∷ xs))) ≡ then m (λ _. Ok (d ∷ []))
-alone r (Ok u) d rest e z = ap (λ (y : Result Declaration FileFault). then y (λ x. then rest (λ xs. Ok (x ∷ xs)))) e ∙ ap (λ (y : Result (List Declaration) FileFault). then y (λ xs. Ok (d ∷ xs))) z
-alone r (Err f) d rest e z = ap (λ (y : Result Declaration FileFault). then y (λ x. then rest (λ xs. Ok (x ∷ xs)))) e
+alone r (Ok u) d rest e z = rw (e, z)
+alone r (Err f) d rest e z = rw e
 
 -- the file of one record: what making from its fields answers
 pub one_record : (bs : List ℕ) (d : Declaration) → bs ≡ record_bytes d → decode bs ≡ then (making_judged d first) (λ _. Ok (d ∷ []))
