@@ -28,6 +28,7 @@ pub fn binder_verdict(bytes: &[u8]) -> u32
         }
         Err(fault) => {
             let (number, _, place) = fault.numbers();
+            // a fault's place is below 65,536
             pack(number, place as u32)
         }
     }

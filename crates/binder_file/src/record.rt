@@ -32,6 +32,7 @@ impl<'a> Record<'a> {
         ensures found { IfOk result (λ r. (r.file.now ≡ file.now) × (r.start ≡ start)) }
         ensures fault { IfErr result (λ fault. record_judged file.now start ≡ Err fault) }
     {
+        // `as`, since no `From` takes a `u32` to a `usize`
         let place = start.place as usize;
         let rest = file.len().saturating_sub(place);
         if rest < 4 || rest < 2 + usize::from(word(file, place)) {
@@ -47,6 +48,7 @@ impl<'a> Record<'a> {
         word(self.file, self.start.place as usize)
     }
 
+    // The number that names the record's kind.
     fn kind(&self) -> u16
         ensures { result ≡ kind_at self.now.file.now self.now.start }
     {
@@ -77,9 +79,8 @@ impl<'a> Record<'a> {
     fn body<S: SheetKind>(&self) -> Result<S, FileFault>
         ensures { meaning S.SheetKind.declares result ≡ body_judged S.SheetKind.judged self.now.file.now self.now.start }
     {
-        let Some(fields) = self.fields() else {
-            return Err(FileFault::WrongLength(self.start.at(0)));
-        };
+        let fault = FileFault::WrongLength(self.start.at(0));
+        let fields = self.fields().ok_or(fault)?;
         S::from_fields(&fields, self.start)
     }
 

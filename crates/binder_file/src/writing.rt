@@ -6,24 +6,25 @@ ghost use Rattle.sheet_binder.specs.Declarations.{declared, declarations};
 ghost use Rattle.binder_file.specs.Format.{word_bytes, record_bytes, decode};
 ghost use Rattle.binder_file.specs.Writing.{encode, write_judged};
 ghost use Rattle.binder_file.specs.declared.refusal.WriteRefusal.{WriteRefusal};
-ghost use Rattle.binder_file.specs.declared.writing.TheConstants.{MOST_OF_RECORD, MOST_OF_FILE};
+ghost use Rattle.binder_file.specs.declared.writing.TheConstants.{RECORD_ROOM, FILE_ROOM};
 
 use crate::refusal::WriteRefusal;
 use arrayvec::ArrayVec;
 use sheet_binder::{Sheet, SheetBinder};
 use sheets::SheetKind;
 
-// The most bytes of a record, which has a length, a kind and at most 40 fields of two bytes each, and of a file of eight.
-const MOST_OF_RECORD: usize = 84;
+// The most bytes of a record: its length, its kind and at most 40 fields, two bytes each.
+const RECORD_ROOM: usize = 2 + 2 + 2 * 40;
 
-const MOST_OF_FILE: usize = 8 * MOST_OF_RECORD;
+// The most bytes of a file, which has at most eight records.
+const FILE_ROOM: usize = 8 * RECORD_ROOM;
 
 // The bytes of a file, or of its first records.
-type FileBytes = ArrayVec<u8, MOST_OF_FILE>;
+type FileBytes = ArrayVec<u8, FILE_ROOM>;
 
 // Appends the numbers, two bytes each.
 fn push_words(words: &[u16], file: &mut FileBytes)
-    requires { array_vec_len file.old + 2 * length words.now ≤ MOST_OF_FILE }
+    requires { array_vec_len file.old + 2 * length words.now ≤ FILE_ROOM }
     ensures items { file.new.items ≡ file.old.items ++ flat_map word_bytes words.now }
     ensures len { array_vec_len file.new ≡ array_vec_len file.old + 2 * length words.now }
 {
@@ -36,9 +37,9 @@ fn push_words(words: &[u16], file: &mut FileBytes)
 
 // Appends the record of a sheet of any kind.
 fn push_record<S: SheetKind>(sheet: &S, file: &mut FileBytes)
-    requires { array_vec_len file.old + MOST_OF_RECORD ≤ MOST_OF_FILE }
+    requires { array_vec_len file.old + RECORD_ROOM ≤ FILE_ROOM }
     ensures items { file.new.items ≡ file.old.items ++ record_bytes (S.SheetKind.declares sheet.now) }
-    ensures few { array_vec_len file.new ≤ array_vec_len file.old + MOST_OF_RECORD }
+    ensures few { array_vec_len file.new ≤ array_vec_len file.old + RECORD_ROOM }
 {
     let count = sheet.field_count();
     let mut fields = [0; 40];
@@ -47,10 +48,11 @@ fn push_record<S: SheetKind>(sheet: &S, file: &mut FileBytes)
     push_words(&fields[..count], file);
 }
 
+// Appends the record of a sheet.
 fn push_sheet(sheet: &Sheet, file: &mut FileBytes)
-    requires { array_vec_len file.old + MOST_OF_RECORD ≤ MOST_OF_FILE }
+    requires { array_vec_len file.old + RECORD_ROOM ≤ FILE_ROOM }
     ensures items { file.new.items ≡ file.old.items ++ record_bytes (declared sheet.now) }
-    ensures few { array_vec_len file.new ≤ array_vec_len file.old + MOST_OF_RECORD }
+    ensures few { array_vec_len file.new ≤ array_vec_len file.old + RECORD_ROOM }
 {
     match sheet {
         Sheet::Rows(sheet) => push_record(sheet, file),
