@@ -9,7 +9,7 @@ use row_sheet::RowSheet;
 use sheet_binder::Sheet;
 use sheets::{FileFault, RecordStart, SheetKind};
 
-// A record that does not pass the end of its file.
+// A record that lies whole in its file: the file has the record's length and kind, and as many bytes as the length says.
 #[derive(Clone, Copy)]
 pub(crate) struct Record<'a> {
     file: &'a [u8],
