@@ -1,4 +1,5 @@
 pub mod Encoding
+pub mod Facts
 pub mod Format
 pub mod Nearness
 pub mod Rewriting

@@ -1,15 +1,16 @@
-use Rattle.std.proofs.Common.{◌≡◌, ℕ, zero, suc, ◌+◌, ◌-◌, ◌*◌, ◌/◌, ◌<◌, ◌≤◌, true, false, eqb, ltb, List, [], ◌∷◌, length, Ok, Err, Result, sym, ap, ◌∙◌, subst, ⊎_elim, arith}
-use Rattle.std.proofs.lemmas.Bool.{cond-true, cond-false, cases_Bool, eqb-false, ltb-false}
+use Rattle.std.proofs.Common.{◌≡◌, ℕ, zero, suc, ◌+◌, ◌-◌, ◌*◌, ◌/◌, ◌<◌, ◌≤◌, eqb, ltb, List, [], length, Ok, Err, Result, ap, subst, ⊎_elim, arith}
+use Rattle.std.proofs.lemmas.Bool.{eqb-false}
 use Rattle.sheets.specs.declared.fault.RecordStart.{RecordStart}
 use Rattle.sheets.specs.declared.fault.FileFault.{FileFault}
 use Rattle.sheets.specs.declared.fault.FileFault.TheVariants.{RecordCount}
-use Rattle.sheets.specs.Faults.{spot, then, meaning, value_or, fault_numbers}
+use Rattle.sheets.specs.Faults.{spot, fault_numbers}
 use Rattle.sheets.specs.Sheets.{Declaration, component_bound, component_gain}
 use Rattle.demand.proofs.Admitted.{numbers_fit}
-use Rattle.sheets.proofs.Inverting.{then_went, not_caught, same_ok}
+use Rattle.sheets.proofs.Inverting.{not_caught}
 use Rattle.sheets.proofs.Places.{Near, near_then, near_then_so, near_cond, rows_near, line_near}
-use Rattle.binder_file.specs.Boot.{verdict_on, boot_parts}
+use Rattle.binder_file.specs.Boot.{verdict_on}
 use Rattle.binder_file.specs.Format.{fields_at, length_at, kind_at, ends_inside, whole_fields, record_judged, next_start, records_from, decode}
+use Rattle.binder_file.proofs.Format.{Ended, First, none_left, first_left}
 use Rattle.binder_file.proofs.Rewriting.{record_accepted}
 
 near_record : (m : ℕ) (bs : List ℕ) (start : RecordStart) → start.place + 68 ≤ m → Near m (record_judged bs start)
@@ -46,24 +47,15 @@ fault_near bs f e = omega (arith, near_err (decode bs) f (near_file bs) e)
 
 -- an accepted file has one to eight sheets
 count_most : (most : ℕ) (bs : List ℕ) (start : RecordStart) (ds : List Declaration) → records_from most bs start ≡ Ok ds → (length ds ≤ most) × (start.place < length bs → 1 ≤ length ds)
-unfolding records_from
 count_most zero bs start ds e =
-    let p = not_caught (ltb start.place (length bs)) (Ok []) (RecordCount (spot start 0)) ds e in
-    let n = ap (λ (l : List Declaration). length l) (same_ok [] ds p.1) in
-    (omega arith, λ h. absurd (omega (arith, ltb-false start.place (length bs) p.0)))
+    let p = none_left bs start ds e in
+    (omega (arith, ap (λ (l : List Declaration). length l) p.1), λ h. absurd (omega (arith, p.0)))
 count_most (suc most) bs start ds e =
-    ⊎_elim (λ (t : ltb start.place (length bs) ≡ true).
-    let q = sym (cond-true (ltb start.place (length bs)) _ _ t) ∙ e in
-    let p = then_went (record_judged bs start) (λ d. then (records_from most bs (next_start bs start)) (λ xs. Ok (d ∷ xs))) ds q in
-    let r = then_went (records_from most bs (next_start bs start)) (λ xs. Ok (p.0 ∷ xs)) ds p.2 in
-    let n = ap (λ (l : List Declaration). length l) (same_ok (p.0 ∷ r.0) ds r.2) in
-    let rest = count_most most bs (next_start bs start) r.0 r.1 in
-    (omega (arith, rest.0), λ h. omega arith))
-    (λ (f : ltb start.place (length bs) ≡ false).
-    let q = sym (cond-false (ltb start.place (length bs)) (then (record_judged bs start) (λ d. then (records_from most bs (next_start bs start)) (λ xs. Ok (d ∷ xs)))) (Ok []) f) ∙ e in
-    let n = ap (λ (l : List Declaration). length l) (same_ok [] ds q) in
-    (omega arith, λ h. absurd (omega (arith, ltb-false start.place (length bs) f))))
-    (cases_Bool (ltb start.place (length bs)))
+    ⊎_elim (λ (p : Ended bs start ds). (omega (arith, ap (λ (l : List Declaration). length l) p.1), λ h. absurd (omega (arith, p.0))))
+    (λ (r : First most bs start ds).
+    let n = ap (λ (l : List Declaration). length l) r.all in
+    (omega (arith, n, (count_most most bs (next_start bs start) r.others r.rest).0), λ h. omega (arith, n)))
+    (first_left most bs start ds e)
 
 pub file_counted : (bs : List ℕ) (ds : List Declaration) → decode bs ≡ Ok ds → (1 ≤ length ds) × (length ds ≤ 8)
 file_counted bs ds e =
@@ -71,16 +63,8 @@ file_counted bs ds e =
     let c = count_most 8 bs (record { index = 0; place = 0 }) ds p.1 in
     (c.1 (omega (arith, eqb-false (length bs) 0 p.0)), c.0)
 
--- a read that went well read those sheets
-pub read_went : (r : Result (List Declaration) FileFault) (old ds : List Declaration) → Ok (tt {0}) ≡ meaning (λ _. tt {0}) r → ds ≡ value_or r old → r ≡ Ok ds
-read_went (Ok xs) old ds a e = ap (λ (l : List Declaration). Ok l) (sym e)
-read_went (Err f) old ds a e = let z : ◌≡◌ {A = ℕ} 0 1 = cc in absurd (omega arith)
-
--- what boot code is told of a file whose verdict is v
-pub parts_told : (bs : List ℕ) (ds : List Declaration) (v : ℕ × ℕ) → decode bs ≡ Ok ds → v ≡ verdict_on ds → (boot_parts (decode bs) ≡ v) × (v.0 ≤ 9) × (v.1 ≤ 8192)
-parts_told bs ds v e q =
+-- the verdict on the sheets of an accepted file fits the number for boot code
+pub verdict_fits : (bs : List ℕ) (ds : List Declaration) → decode bs ≡ Ok ds → ((verdict_on ds).0 ≤ 9) × ((verdict_on ds).1 ≤ 8192)
+verdict_fits bs ds e =
     let c = file_counted bs ds e in
-    let f = numbers_fit (length ds) (component_bound ds) (component_gain ds) c.0 c.1 in
-    let n = ap (λ (p : ℕ × ℕ). p.0) q in
-    let l = ap (λ (p : ℕ × ℕ). p.1) q in
-    (ap (λ (r : Result (List Declaration) FileFault). boot_parts r) e ∙ sym q, omega (arith, f.0, n), omega (arith, f.1, l))
+    numbers_fit (length ds) (component_bound ds) (component_gain ds) c.0 c.1

@@ -2,18 +2,18 @@ use Rattle.std.proofs.Common.{◌≡◌, ℕ, zero, suc, ◌+◌, ◌-◌, ◌*�
 use Rattle.std.specs.List.{flat_map}
 use Rattle.std.proofs.lemmas.List.FromFn.{map-range_with_len_more, get_or-map-range_with_len, fill_by_all}
 use Rattle.std.proofs.lemmas.List.{append_assoc, flat_map_more, take_more, get_or-drop, length-drop, drop_all, drop-drop, take-append-drop}
-use Rattle.std.proofs.lemmas.Bool.{and_parts, or_parts, leb-true, eqb-true, ltb-false, cond-true, cond-false, cases_Bool}
+use Rattle.std.proofs.lemmas.Bool.{and_parts, or_parts, leb-true, eqb-true, ltb-false}
 use Rattle.sheets.specs.declared.fault.RecordStart.{RecordStart}
 use Rattle.sheets.specs.declared.fault.FileFault.{FileFault}
 use Rattle.sheets.specs.declared.fault.FileFault.TheVariants.{CutShort, UnknownKind, WrongLength, RecordCount}
-use Rattle.sheets.specs.Faults.{spot, then}
+use Rattle.sheets.specs.Faults.{spot}
 use Rattle.sheets.specs.Sheets.{Declaration}
 use Rattle.sheets.specs.Kinds.{rows_record, line_record, kind_of, fields_of}
-use Rattle.sheets.proofs.Inverting.{then_went, passed, not_caught, same_ok}
+use Rattle.sheets.proofs.Inverting.{passed, not_caught}
 use Rattle.sheets.proofs.Records.{rows_accepted, line_accepted}
 use Rattle.binder_file.specs.Format.{word_at, fields_at, length_at, kind_at, ends_inside, whole_fields, body_judged, kind_judged, record_judged, next_start, records_from, decode, word_bytes, record_words, record_bytes}
 use Rattle.binder_file.specs.Writing.{encode}
-use Rattle.binder_file.proofs.Format.{length_fields}
+use Rattle.binder_file.proofs.Format.{length_fields, Ended, First, none_left, first_left}
 
 -- bytes, as a file has them
 abbrev pub Bytes : List ℕ → Type 0
@@ -68,7 +68,7 @@ body_accepted judged bs start d n told k inside e =
 kind_accepted : (bs : List ℕ) (start : RecordStart) (d : Declaration) (b c : Bool) → eqb (kind_at bs start) 1 ≡ b → eqb (kind_at bs start) 2 ≡ c → start.place + 2 + length_at bs start ≤ length bs → cond b (body_judged rows_record bs start) (cond c (body_judged line_record bs start) (Err (UnknownKind (spot start 0)))) ≡ Ok d → Accepted bs start d
 kind_accepted bs start d true c p q inside e = body_accepted rows_record bs start d 1 (λ fs f. rows_accepted fs start d f) (eqb-true (kind_at bs start) 1 p) inside e
 kind_accepted bs start d false true p q inside e = body_accepted line_record bs start d 2 (λ fs f. line_accepted fs start d f) (eqb-true (kind_at bs start) 2 q) inside e
-kind_accepted bs start d false false p q inside e = let z : ◌≡◌ {A = ℕ} 0 1 = cc in absurd (omega arith)
+kind_accepted bs start d false false p q inside e = cc
 
 pub record_accepted : (bs : List ℕ) (start : RecordStart) (d : Declaration) → record_judged bs start ≡ Ok d → Accepted bs start d
 record_accepted bs start d e =
@@ -93,27 +93,22 @@ record_forth bs start d small a =
     ap (λ (l : List ℕ). flat_map word_bytes l) words ∙ fields_forth bs start.place n small (omega (arith, a.inside, size)) ∙ ap (λ m. take m (drop start.place bs)) size
 
 -- the records from `start` on are the rest of the file
+ended_forth : (bs : List ℕ) (start : RecordStart) (ds : List Declaration) → Ended bs start ds → encode ds ≡ drop start.place bs
+ended_forth bs start ds p = ap encode p.1 ∙ sym (drop_all start.place bs p.0)
+
 records_forth : (most : ℕ) (bs : List ℕ) (start : RecordStart) (ds : List Declaration) → Bytes bs → records_from most bs start ≡ Ok ds → encode ds ≡ drop start.place bs
-unfolding records_from
-records_forth zero bs start ds small e =
-    let p = not_caught (ltb start.place (length bs)) (Ok []) (RecordCount (spot start 0)) ds e in
-    ap encode (sym (same_ok [] ds p.1)) ∙ sym (drop_all start.place bs (ltb-false start.place (length bs) p.0))
+records_forth zero bs start ds small e = ended_forth bs start ds (none_left bs start ds e)
 records_forth (suc most) bs start ds small e =
-    ⊎_elim (λ (t : ltb start.place (length bs) ≡ true).
-    let q = sym (cond-true (ltb start.place (length bs)) _ _ t) ∙ e in
-    let p = then_went (record_judged bs start) (λ d. then (records_from most bs (next_start bs start)) (λ xs. Ok (d ∷ xs))) ds q in
-    let r = then_went (records_from most bs (next_start bs start)) (λ xs. Ok (p.0 ∷ xs)) ds p.2 in
-    let rest = records_forth most bs (next_start bs start) r.0 small r.1 in
+    ⊎_elim (λ (p : Ended bs start ds). ended_forth bs start ds p)
+    (λ (r : First most bs start ds).
+    let rest = records_forth most bs (next_start bs start) r.others small r.rest in
     let n = 2 + length_at bs start in
     let z : start.place + 2 + length_at bs start ≡ start.place + n = omega arith in
-    ap encode (sym (same_ok (p.0 ∷ r.0) ds r.2))
-    ∙ ap (λ (l : List ℕ). l ++ encode r.0) (record_forth bs start p.0 small (record_accepted bs start p.0 p.1))
+    ap encode r.all
+    ∙ ap (λ (l : List ℕ). l ++ encode r.others) (record_forth bs start r.sheet small (record_accepted bs start r.sheet r.judged))
     ∙ ap (λ (l : List ℕ). take n (drop start.place bs) ++ l) (rest ∙ ap (λ m. drop m bs) z ∙ sym (drop-drop n start.place bs))
     ∙ take-append-drop n (drop start.place bs))
-    (λ (f : ltb start.place (length bs) ≡ false).
-    let q = sym (cond-false (ltb start.place (length bs)) (then (record_judged bs start) (λ d. then (records_from most bs (next_start bs start)) (λ xs. Ok (d ∷ xs)))) (Ok []) f) ∙ e in
-    ap encode (sym (same_ok [] ds q)) ∙ sym (drop_all start.place bs (ltb-false start.place (length bs) f)))
-    (cases_Bool (ltb start.place (length bs)))
+    (first_left most bs start ds e)
 
 -- writing the sheets of an accepted file gives the file
 pub decode_forth : (bs : List ℕ) (ds : List Declaration) → Bytes bs → decode bs ≡ Ok ds → encode ds ≡ bs

@@ -1,12 +1,12 @@
-use Rattle.std.proofs.Common.{◌≡◌, ℕ, zero, suc, ◌+◌, ◌-◌, ◌*◌, ◌/◌, ◌%◌, ◌<◌, true, false, eqb, List, [], ◌∷◌, ◌++◌, length, get_or, take, drop, Ok, Err, Result, sym, refl, ap, ◌∙◌, arith}
+use Rattle.std.proofs.Common.{◌≡◌, ℕ, zero, suc, ◌+◌, ◌-◌, ◌*◌, ◌/◌, ◌%◌, ◌<◌, true, false, eqb, List, [], ◌∷◌, ◌++◌, length, get_or, Ok, Err, Result, sym, refl, ap, ◌∙◌, arith}
 use Rattle.std.specs.List.{flat_map}
+use Rattle.std.proofs.lemmas.Grind.{common_steps}
 use Rattle.std.proofs.lemmas.List.FromFn.{fill_by_all}
-use Rattle.std.proofs.lemmas.List.{get_or-append-add, get_or_append_left, length-append, append-nil, append_assoc, take_at}
-use Rattle.std.proofs.lemmas.Bool.{cond-true, cond-false, and_from, or_from, le-leb, eq-eqb, le-ltb, ne_eqb}
+use Rattle.std.proofs.lemmas.List.{append-nil}
+use Rattle.std.proofs.lemmas.Bool.{cond-true, cond-false, and_from, le-leb, eq-eqb, ne_eqb}
 use Rattle.sheets.specs.declared.fault.RecordStart.{RecordStart}
 use Rattle.sheets.specs.declared.fault.FileFault.{FileFault}
-use Rattle.sheets.specs.Faults.{then, meaning}
-use Rattle.sheets.specs.Over.{over}
+use Rattle.sheets.specs.Faults.{then}
 use Rattle.sheets.specs.Sheets.{Declaration, rows, line}
 use Rattle.sheets.specs.Kinds.{rows_record, line_record, kind_of, fields_of, making_judged}
 use Rattle.sheets.proofs.Records.{rows_record_back, line_record_back}
@@ -18,7 +18,7 @@ length_words [] = refl
 length_words (w ∷ ws) = omega (arith, length_words ws)
 
 behind : (w : ℕ) (bs : List ℕ) (k m : ℕ) → k ≡ 2 + m → get_or (word_bytes w ++ bs) k 0 ≡ get_or bs m 0
-behind w bs k m e = ap (λ x. get_or (word_bytes w ++ bs) x 0) e ∙ get_or-append-add (word_bytes w) bs m 0
+behind w bs k m e = grind (arith, common_steps)
 
 -- the i-th number of some, read back from their bytes
 word_back : (ws : List ℕ) (i : ℕ) → i < length ws → word_at (flat_map word_bytes ws) (2 * i) ≡ get_or ws i 0
@@ -30,13 +30,7 @@ word_back (w ∷ ws) (suc i) h =
 
 -- the same with other bytes before and behind
 word_inside : (before behind' ws : List ℕ) (k i : ℕ) → k ≡ length before + 2 * i → i < length ws → word_at (before ++ (flat_map word_bytes ws ++ behind')) k ≡ get_or ws i 0
-word_inside before behind' ws k i e h =
-    let bs = flat_map word_bytes ws in
-    let n = length_words ws in
-    let a : get_or (before ++ (bs ++ behind')) k 0 ≡ get_or bs (2 * i) 0 = ap (λ x. get_or (before ++ (bs ++ behind')) x 0) e ∙ get_or-append-add before (bs ++ behind') (2 * i) 0 ∙ get_or_append_left bs behind' 0 (2 * i) (omega arith) in
-    let f : k + 1 ≡ length before + (2 * i + 1) = omega arith in
-    let b : get_or (before ++ (bs ++ behind')) (k + 1) 0 ≡ get_or bs (2 * i + 1) 0 = ap (λ x. get_or (before ++ (bs ++ behind')) x 0) f ∙ get_or-append-add before (bs ++ behind') (2 * i + 1) 0 ∙ get_or_append_left bs behind' 0 (2 * i + 1) (omega arith) in
-    omega (arith, a, b, word_back ws i h)
+word_inside before behind' ws k i e h = grind (arith, common_steps, word_back ws i h, length_words ws)
 
 -- a record between other bytes
 module _ (before behind' : List ℕ) (d : Declaration) (start : RecordStart) (at : start.place ≡ length before) where
@@ -52,12 +46,7 @@ module _ (before behind' : List ℕ) (d : Declaration) (start : RecordStart) (at
       (λ k h. sym (word_inside before behind' (record_words d) (start.place + 4 + 2 * k) (suc (suc k)) (omega arith) (omega arith))))
 
   whole_back : ends_inside (before ++ (record_bytes d ++ behind')) start ≡ false
-  whole_back =
-      let n = length-append before (record_bytes d ++ behind') in
-      let m = length-append (record_bytes d) behind' in
-      let k = length_words (record_words d) in
-      or_from _ _ (le-ltb (length (before ++ (record_bytes d ++ behind'))) (start.place + 4) (omega (arith, n, m, k, at)))
-      (le-ltb (length (before ++ (record_bytes d ++ behind'))) (start.place + 2 + length_at (before ++ (record_bytes d ++ behind')) start) (omega (arith, n, m, k, at, length_back)))
+  whole_back = grind (arith, common_steps, length_back, length_words (record_words d))
 
   body_back : (judged : List ℕ → RecordStart → Result Declaration FileFault) → body_judged judged (before ++ (record_bytes d ++ behind')) start ≡ judged (fields_of d) start
   body_back judged =
@@ -90,8 +79,8 @@ abbrev first : RecordStart
 first = record { index = 0; place = 0 }
 
 alone : (r : Result Declaration FileFault) (m : Result (Unit {0}) FileFault) (d : Declaration) (rest : Result (List Declaration) FileFault) → r ≡ then m (λ _. Ok d) → rest ≡ Ok [] → then r (λ x. then rest (λ xs. Ok (x ∷ xs))) ≡ then m (λ _. Ok (d ∷ []))
-alone r (Ok u) d rest e z = ap (λ (y : Result Declaration FileFault). then y (λ x. then rest (λ xs. Ok (x ∷ xs)))) e ∙ ap (λ (y : Result (List Declaration) FileFault). then y (λ xs. Ok (d ∷ xs))) z
-alone r (Err f) d rest e z = ap (λ (y : Result Declaration FileFault). then y (λ x. then rest (λ xs. Ok (x ∷ xs)))) e
+alone r (Ok u) d rest e z = rw (e, z)
+alone r (Err f) d rest e z = rw e
 
 -- the file of one record: what making from its fields answers
 pub one_record : (bs : List ℕ) (d : Declaration) → bs ≡ record_bytes d → decode bs ≡ then (making_judged d first) (λ _. Ok (d ∷ []))
@@ -104,29 +93,21 @@ one_record bs d e =
     ∙ record_first 7 f first (omega (arith, n))
     ∙ alone (record_judged f first) (making_judged d first) d (records_from 7 f (next_start f first)) (record_back [] [] d first refl) z
 
-only_answer : (m : Result (Unit {0}) FileFault) (ds : List Declaration) → meaning (λ _. tt {0}) (then m (λ _. Ok ds)) ≡ m
-only_answer (Ok tt) ds = refl
-only_answer (Err f) ds = refl
+-- so the file is refused as making is, or declares that sheet alone
+refused_one : (m : Result (Unit {0}) FileFault) (ds : List Declaration) (f : FileFault) → then m (λ _. Ok ds) ≡ Err f → m ≡ Err f
+refused_one (Ok tt) ds f e = cc
+refused_one (Err g) ds f e = cc
 
-pub alone_as_made : (bs : List ℕ) (d : Declaration) → bs ≡ record_bytes d → meaning (λ _. tt {0}) (decode bs) ≡ making_judged d first
-alone_as_made bs d e = ap (λ (r : Result (List Declaration) FileFault). meaning (λ _. tt {0}) r) (one_record bs d e) ∙ only_answer (making_judged d first) (d ∷ [])
+pub alone_refused : (bs : List ℕ) (d : Declaration) (f : FileFault) → bs ≡ record_bytes d → decode bs ≡ Err f → making_judged d first ≡ Err f
+alone_refused bs d f e g = refused_one (making_judged d first) (d ∷ []) f (sym (one_record bs d e) ∙ g)
 
--- the record of a sheet: its head, and then its fields
-pub record_parts : (first : List ℕ) (d : Declaration) (count tag : ℕ) (part : List ℕ) → count ≡ length (fields_of d) → kind_of d ≡ tag → part ≡ fields_of d → (first ++ flat_map word_bytes ((2 + 2 * count) ∷ tag ∷ [])) ++ flat_map word_bytes part ≡ first ++ record_bytes d
-record_parts first d count tag part n k p =
-    append_assoc first (flat_map word_bytes ((2 + 2 * count) ∷ tag ∷ [])) (flat_map word_bytes part)
-    ∙ ap (λ (l : List ℕ). first ++ l) (ap (λ (m : ℕ). flat_map word_bytes ((2 + 2 * m) ∷ tag ∷ []) ++ flat_map word_bytes part) n ∙ ap (λ (m : ℕ). flat_map word_bytes ((2 + 2 * length (fields_of d)) ∷ m ∷ []) ++ flat_map word_bytes part) (sym k) ∙ ap (λ (l : List ℕ). flat_map word_bytes ((2 + 2 * length (fields_of d)) ∷ kind_of d ∷ []) ++ flat_map word_bytes l) p)
+accepted_one : (m : Result (Unit {0}) FileFault) (d : Declaration) (ds : List Declaration) → then m (λ _. Ok (d ∷ [])) ≡ Ok ds → (m ≡ Ok tt) × (ds ≡ d ∷ [])
+accepted_one (Ok tt) d ds e = (refl, cc)
+accepted_one (Err f) d ds e = cc
 
--- the fields that were put into slots
-pub fields_put : (slots old fs : List ℕ) (count : ℕ) → slots ≡ over fs old → count ≡ length fs → take (count - 0) slots ≡ fs
-fields_put slots old fs count e n =
-    let z : count - 0 ≡ count = omega arith in
-    ap (λ (m : ℕ). take m slots) z ∙ ap (λ (l : List ℕ). take count l) e ∙ take_at fs (drop (length fs) old) count (sym n)
+module _ (bs : List ℕ) (d : Declaration) (ds : List Declaration) (e : bs ≡ record_bytes d) (f : decode bs ≡ Ok ds) where
+  pub alone_accepted : making_judged d first ≡ Ok tt
+  alone_accepted = (accepted_one (making_judged d first) d ds (sym (one_record bs d e) ∙ f)).0
 
--- and where it is accepted, that sheet is all there is
-accepted_one : (m : Result (Unit {0}) FileFault) (d : Declaration) (ds : List Declaration) → Ok ds ≡ then m (λ _. Ok (d ∷ [])) → ds ≡ d ∷ []
-accepted_one (Ok u) d ds e = cc
-accepted_one (Err f) d ds e = let z : ◌≡◌ {A = ℕ} 0 1 = cc in absurd (omega arith)
-
-pub alone_declares : (bs : List ℕ) (d : Declaration) (ds : List Declaration) → bs ≡ record_bytes d → decode bs ≡ Ok ds → ds ≡ d ∷ []
-alone_declares bs d ds e f = accepted_one (making_judged d first) d ds (sym f ∙ one_record bs d e)
+  pub alone_declares : ds ≡ d ∷ []
+  alone_declares = (accepted_one (making_judged d first) d ds (sym (one_record bs d e) ∙ f)).1

@@ -1,4 +1,4 @@
-use Rattle.std.specs.Prelude.{ℕ, cond, List, length, Ok, Err, Result, ◌==◌, nat_lt}
+use Rattle.std.specs.Prelude.{ℕ, cond, List, ◌++◌, length, Ok, Err, Result, ◌==◌, nat_lt, codes, decimal}
 use Rattle.std.specs.List.{flat_map}
 use Rattle.sheets.specs.Sheets.{Declaration}
 use Rattle.binder_file.specs.Format.{record_bytes}
@@ -9,6 +9,11 @@ use Rattle.binder_file.specs.declared.refusal.WriteRefusal.TheVariants.{NoSheet,
 abbrev pub write_numbers : WriteRefusal → ℕ × ℕ
 write_numbers NoSheet = (6, 0)
 write_numbers (ShortBuffer needed) = (7, needed)
+
+-- a refusal in words
+abbrev pub write_words : WriteRefusal → List ℕ
+write_words NoSheet = codes "the binder has no sheet"
+write_words (ShortBuffer needed) = codes "the buffer is too short: the file has " ++ (decimal needed ++ codes " bytes")
 
 -- the file of some sheets
 abbrev pub encode : List Declaration → List ℕ

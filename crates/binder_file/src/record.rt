@@ -1,81 +1,108 @@
-ghost use Rattle.std.specs.Prelude.{◌≡◌, ◌+◌, ◌*◌, ◌<◌, ◌≤◌, false, length, take, ◌==◌};
-ghost use Rattle.binder_file.specs.Format.{word_at, fields_at, kind_at, ends_inside, whole_fields, body_judged, record_judged};
+ghost use Rattle.std.specs.Prelude.{◌≡◌, ◌+◌, ◌-◌, ◌*◌, ◌/◌, ◌<◌, ◌≤◌, true, false, length, Err, IfSome, IfNone, IfOk, IfErr};
+ghost use Rattle.binder_file.specs.Format.{word_at, fields_at, length_at, kind_at, whole_fields, body_judged, record_judged, next_start};
 ghost use Rattle.sheets.specs.Faults.{meaning};
 ghost use Rattle.sheet_binder.specs.Declarations.{declared};
 
+use arrayvec::ArrayVec;
 use line_sheet::LineSheet;
 use row_sheet::RowSheet;
 use sheet_binder::Sheet;
 use sheets::{FileFault, RecordStart, SheetKind};
 
+// A record that lies whole in its file: the file has the record's length and kind, and as many bytes as the length says.
+#[derive(Clone, Copy)]
+pub(crate) struct Record<'a> {
+    file: &'a [u8],
+    start: RecordStart,
+    ghost head: { start.place + 4 ≤ length file.now },
+    ghost whole: { start.place + 2 + length_at file.now start ≤ length file.now },
+}
+
 // The number of two bytes at `place`.
-pub(crate) fn word(bytes: &[u8], place: usize) -> u16
-    requires { place + 2 ≤ length bytes.now }
-    ensures { result ≡ word_at bytes.now place }
+fn word(file: &[u8], place: usize) -> u16
+    requires { place + 2 ≤ length file.now }
+    ensures { result ≡ word_at file.now place }
 {
-    u16::from_le_bytes([bytes[place], bytes[place + 1]])
+    u16::from_le_bytes([file[place], file[place + 1]])
 }
 
-// The `count` fields from `place` on, in the first slots.
-fn fields_of(bytes: &[u8], place: usize, count: usize) -> [u16; 40]
-    requires { (count ≤ 40) × (place + 2 * count ≤ length bytes.now) }
-    ensures { take count result ≡ fields_at bytes.now place count }
-{
-    let mut fields = [0; 40];
-    for i in 0..count {
-        fields[i] = word(bytes, place + 2 * i);
+impl<'a> Record<'a> {
+    // The record at `start`, unless the file ends inside it.
+    pub(crate) fn at(file: &'a [u8], start: RecordStart) -> Result<Record<'a>, FileFault>
+        ensures found { IfOk result (λ r. (r.file.now ≡ file.now) × (r.start ≡ start)) }
+        ensures fault { IfErr result (λ fault. record_judged file.now start ≡ Err fault) }
+    {
+        // `as`, since no `From` takes a `u32` to a `usize`
+        let place = start.place as usize;
+        let rest = file.len().saturating_sub(place);
+        if rest < 4 || rest < 2 + usize::from(word(file, place)) {
+            return Err(FileFault::CutShort(start.at(0)));
+        }
+        Ok(Record { file, start })
     }
-    fields
-}
 
-// Whether the record's kind is that of the sheets S.
-fn is_kind<S: SheetKind>(bytes: &[u8], start: RecordStart) -> bool
-    requires { start.place + 4 ≤ length bytes.now }
-    ensures { result ≡ (kind_at bytes.now start == S.SheetKind.number) }
-{
-    word(bytes, start.place as usize + 2) == S::tag()
-}
+    // How many bytes of the record follow its length.
+    fn length(&self) -> u16
+        ensures { result ≡ length_at self.now.file.now self.now.start }
+    {
+        word(self.file, self.start.place as usize)
+    }
 
-// Whether a record of this length has a kind and whole fields.
-fn has_whole_fields(length: usize) -> bool
-    ensures { result ≡ whole_fields length }
-{
-    length >= 2 && length % 2 == 0
-}
+    // The number that names the record's kind.
+    fn kind(&self) -> u16
+        ensures { result ≡ kind_at self.now.file.now self.now.start }
+    {
+        word(self.file, self.start.place as usize + 2)
+    }
 
-// The sheet in the body of a record of its kind.
-fn read_body<S: SheetKind>(bytes: &[u8], start: RecordStart) -> Result<S, FileFault>
-    requires { ends_inside bytes.now start ≡ false }
-    ensures { meaning S.SheetKind.declares result ≡ body_judged S.SheetKind.judged bytes.now start }
-{
-    let place = start.place as usize;
-    let length = word(bytes, place) as usize;
-    if !has_whole_fields(length) {
-        return Err(FileFault::WrongLength(start.at(0)));
+    // The fields, where the record has a kind and at most 40 whole fields.
+    #[tactic(auto, using(crate::proofs::Format::fields_more))]
+    fn fields(&self) -> Option<ArrayVec<u16, 40>>
+        ensures read { let n = length_at self.now.file.now self.now.start in IfSome result (λ fields. (whole_fields n ≡ true) × (fields.items ≡ fields_at self.now.file.now (self.now.start.place + 4) ((n - 2) / 2))) }
+        ensures refused { let n = length_at self.now.file.now self.now.start in IfNone result (whole_fields n ≡ true → 40 < (n - 2) / 2) }
+    {
+        let size = usize::from(self.length()).checked_sub(2)?;
+        let place = self.start.place as usize + 4;
+        let (pairs, odd) = self.file[place..place + size].as_chunks::<2>();
+        if !odd.is_empty() || pairs.len() > 40 {
+            return None;
+        }
+        let mut fields = ArrayVec::new();
+        for pair in pairs {
+            fields.push(u16::from_le_bytes(*pair));
+        }
+        Some(fields)
     }
-    let count = (length - 2) / 2;
-    if count > 40 {
-        return Err(FileFault::WrongLength(start.at(0)));
-    }
-    let fields = fields_of(bytes, place + 4, count);
-    S::from_fields(&fields[0..count], start)
-}
 
-// The sheet of the record at `start`.
-pub(crate) fn read_record(bytes: &[u8], start: RecordStart) -> Result<Sheet, FileFault>
-    ensures { meaning declared result ≡ record_judged bytes.now start }
-{
-    let rest = bytes.len().saturating_sub(start.place as usize);
-    if rest < 4 || rest < 2 + word(bytes, start.place as usize) as usize {
-        return Err(FileFault::CutShort(start.at(0)));
+    // The sheet in the record's body, if that is one of the kind S.
+    #[tactic(auto, using(crate::proofs::Format::body_refused))]
+    fn body<S: SheetKind>(&self) -> Result<S, FileFault>
+        ensures { meaning S.SheetKind.declares result ≡ body_judged S.SheetKind.judged self.now.file.now self.now.start }
+    {
+        let fault = FileFault::WrongLength(self.start.at(0));
+        let fields = self.fields().ok_or(fault)?;
+        S::from_fields(&fields, self.start)
     }
-    if is_kind::<RowSheet>(bytes, start) {
-        let sheet = read_body::<RowSheet>(bytes, start)?;
-        return Ok(Sheet::Rows(sheet));
+
+    // The record's sheet.
+    pub(crate) fn sheet(&self) -> Result<Sheet, FileFault>
+        ensures { meaning declared result ≡ record_judged self.now.file.now self.now.start }
+    {
+        match self.kind() {
+            RowSheet::KIND => self.body().map(Sheet::Rows),
+            LineSheet::KIND => self.body().map(Sheet::Line),
+            _ => Err(FileFault::UnknownKind(self.start.at(0))),
+        }
     }
-    if is_kind::<LineSheet>(bytes, start) {
-        let sheet = read_body::<LineSheet>(bytes, start)?;
-        return Ok(Sheet::Line(sheet));
+
+    // Where the record behind this one begins.
+    pub(crate) fn following(&self) -> RecordStart
+        requires { (self.now.start.index < 8) × (self.now.start.place ≤ 65537 * self.now.start.index) }
+        ensures { result ≡ next_start self.now.file.now self.now.start }
+    {
+        RecordStart {
+            index: self.start.index + 1,
+            place: self.start.place + 2 + u32::from(self.length()),
+        }
     }
-    Err(FileFault::UnknownKind(start.at(0)))
 }

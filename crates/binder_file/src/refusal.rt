@@ -1,8 +1,10 @@
-ghost use Rattle.std.specs.Prelude.{◌≡◌};
-ghost use Rattle.binder_file.specs.Writing.{write_numbers};
+ghost use Rattle.std.specs.Prelude.{◌≡◌, Some};
+ghost use Rattle.binder_file.specs.Writing.{write_numbers, write_words};
 ghost use Rattle.std.proofs.Common.{rules};
 
 use demand::Refusal;
+use std::error::Error;
+use std::fmt;
 
 // Why a binder is not written.
 #[derive(Clone, Copy, PartialEq, Eq, Debug)]
@@ -36,3 +38,18 @@ impl Refusal for WriteRefusal {
         self.numbers().0
     }
 }
+
+impl fmt::Display for WriteRefusal {
+    ghost output = { λ refusal. Some (write_words refusal) };
+
+    fn fmt<W: fmt::Write>(&self, f: &mut fmt::Formatter<W>) -> fmt::Result {
+        match self {
+            WriteRefusal::NoSheet => f.write_str("the binder has no sheet"),
+            WriteRefusal::ShortBuffer(needed) => {
+                write!(f, "the buffer is too short: the file has {needed} bytes")
+            }
+        }
+    }
+}
+
+impl Error for WriteRefusal {}

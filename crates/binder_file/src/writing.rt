@@ -1,103 +1,80 @@
-ghost use Rattle.std.specs.Prelude.{◌≡◌, ℕ, ◌+◌, ◌*◌, ◌≤◌, List, ◌++◌, map, length, take, Ok, Err};
+ghost use Rattle.std.specs.Prelude.{◌≡◌, ℕ, ◌+◌, ◌*◌, ◌≤◌, ◌++◌, map, length, take, Ok, Err};
 ghost use Rattle.std.specs.List.{flat_map};
+ghost use Rattle.arrayvec.specs.ArrayVec.{array_vec_len};
 ghost use Rattle.sheets.specs.Over.{over};
 ghost use Rattle.sheet_binder.specs.Declarations.{declared, declarations};
 ghost use Rattle.binder_file.specs.Format.{word_bytes, record_bytes, decode};
 ghost use Rattle.binder_file.specs.Writing.{encode, write_judged};
 ghost use Rattle.binder_file.specs.declared.refusal.WriteRefusal.{WriteRefusal};
+ghost use Rattle.binder_file.specs.declared.writing.TheConstants.{RECORD_ROOM, FILE_ROOM};
 
 use crate::refusal::WriteRefusal;
+use arrayvec::ArrayVec;
 use sheet_binder::{Sheet, SheetBinder};
 use sheets::SheetKind;
 
-// Writes the number as two bytes.
-fn put_word(word: u16, buffer: &mut [u8], at: usize)
-    requires { at + 2 ≤ length buffer.old }
-    ensures { (first old : List ℕ) → buffer.old ≡ over first old → at ≡ length first → at + 2 ≤ length old → buffer.new ≡ over (first ++ word_bytes word) old }
-{
-    buffer[at] = (word % 256) as u8;
-    buffer[at + 1] = (word / 256) as u8;
-}
+// The most bytes of a record: its length, its kind and at most 40 fields, two bytes each.
+const RECORD_ROOM: usize = 2 + 2 + 2 * 40;
 
-// Writes the numbers one behind the other.
-fn put_words(words: &[u16], buffer: &mut [u8], at: usize)
-    requires { at + 2 * length words.now ≤ length buffer.old }
-    ensures { (first old : List ℕ) → buffer.old ≡ over first old → at ≡ length first → at + 2 * length words.now ≤ length old → buffer.new ≡ over (first ++ flat_map word_bytes words.now) old }
+// The most bytes of a file, which has at most eight records.
+const FILE_ROOM: usize = 8 * RECORD_ROOM;
+
+// The bytes of a file, or of its first records.
+type FileBytes = ArrayVec<u8, FILE_ROOM>;
+
+// Appends the numbers, two bytes each.
+fn push_words(words: &[u16], file: &mut FileBytes)
+    requires { array_vec_len file.old + 2 * length words.now ≤ FILE_ROOM }
+    ensures items { file.new.items ≡ file.old.items ++ flat_map word_bytes words.now }
+    ensures len { array_vec_len file.new ≡ array_vec_len file.old + 2 * length words.now }
 {
-    for (i, word) in words.iter().enumerate() {
-        put_word(*word, buffer, at + 2 * i);
+    for word in words {
+        let [low, high] = word.to_le_bytes();
+        file.push(low);
+        file.push(high);
     }
 }
 
-// Writes the record of a sheet of any kind, and says where it ends.
-fn write_record<S: SheetKind>(sheet: &S, buffer: &mut [u8], at: usize) -> usize
-    requires { at + length (record_bytes (S.SheetKind.declares sheet.now)) ≤ length buffer.old }
-    ensures end { result ≡ at + length (record_bytes (S.SheetKind.declares sheet.now)) }
-    ensures bytes { (first old : List ℕ) → buffer.old ≡ over first old → at ≡ length first → length buffer.old ≤ length old → buffer.new ≡ over (first ++ record_bytes (S.SheetKind.declares sheet.now)) old }
+// Appends the record of a sheet of any kind.
+fn push_record<S: SheetKind>(sheet: &S, file: &mut FileBytes)
+    requires { array_vec_len file.old + RECORD_ROOM ≤ FILE_ROOM }
+    ensures items { file.new.items ≡ file.old.items ++ record_bytes (S.SheetKind.declares sheet.now) }
+    ensures few { array_vec_len file.new ≤ array_vec_len file.old + RECORD_ROOM }
 {
     let count = sheet.field_count();
     let mut fields = [0; 40];
     sheet.put_fields(&mut fields);
-    let head = [(2 + 2 * count) as u16, S::tag()];
-    put_words(&head, buffer, at);
-    put_words(&fields[0..count], buffer, at + 4);
-    at + 4 + 2 * count
+    push_words(&[(2 + 2 * count) as u16, S::tag()], file);
+    push_words(&fields[..count], file);
 }
 
-// How many bytes the record of a sheet of any kind has.
-fn size_of_record<S: SheetKind>(sheet: &S) -> usize
-    ensures size { result ≡ length (record_bytes (S.SheetKind.declares sheet.now)) }
-    ensures few { result ≤ 84 }
-{
-    4 + 2 * sheet.field_count()
-}
-
-fn size_of_sheet(sheet: &Sheet) -> usize
-    ensures size { result ≡ length (record_bytes (declared sheet.now)) }
-    ensures few { result ≤ 84 }
+// Appends the record of a sheet.
+fn push_sheet(sheet: &Sheet, file: &mut FileBytes)
+    requires { array_vec_len file.old + RECORD_ROOM ≤ FILE_ROOM }
+    ensures items { file.new.items ≡ file.old.items ++ record_bytes (declared sheet.now) }
+    ensures few { array_vec_len file.new ≤ array_vec_len file.old + RECORD_ROOM }
 {
     match sheet {
-        Sheet::Rows(sheet) => size_of_record(sheet),
-        Sheet::Line(sheet) => size_of_record(sheet),
+        Sheet::Rows(sheet) => push_record(sheet, file),
+        Sheet::Line(sheet) => push_record(sheet, file),
     }
 }
 
-// How many bytes the file of these sheets has.
-fn size_of_file(sheets: &[Sheet]) -> usize
+// The file of these sheets.
+fn file_of(sheets: &[Sheet]) -> FileBytes
     requires { length sheets.now ≤ 8 }
-    ensures { result ≡ length (encode (map declared sheets.now)) }
+    ensures { result.items ≡ encode (map declared sheets.now) }
 {
-    let mut size = 0;
+    let mut file = ArrayVec::new();
     for sheet in sheets {
-        size += size_of_sheet(sheet);
+        push_sheet(sheet, &mut file);
     }
-    size
-}
-
-fn write_sheet(sheet: &Sheet, buffer: &mut [u8], at: usize) -> usize
-    requires { at + length (record_bytes (declared sheet.now)) ≤ length buffer.old }
-    ensures end { result ≡ at + length (record_bytes (declared sheet.now)) }
-    ensures bytes { (first old : List ℕ) → buffer.old ≡ over first old → at ≡ length first → length buffer.old ≤ length old → buffer.new ≡ over (first ++ record_bytes (declared sheet.now)) old }
-{
-    match sheet {
-        Sheet::Rows(sheet) => write_record(sheet, buffer, at),
-        Sheet::Line(sheet) => write_record(sheet, buffer, at),
-    }
-}
-
-// Writes the records one behind the other.
-fn write_sheets(sheets: &[Sheet], buffer: &mut [u8])
-    requires { length (encode (map declared sheets.now)) ≤ length buffer.old }
-    ensures { buffer.new ≡ over (encode (map declared sheets.now)) buffer.old }
-{
-    let mut at = 0;
-    for sheet in sheets {
-        at = write_sheet(sheet, buffer, at);
-    }
+    file
 }
 
 // Writes the binder's file into the first bytes of the buffer and answers its size, or refuses and leaves the buffer. What is
 // written reads back as the same sheets.
+#[tactic(auto, using(crate::proofs::Encoding::buffer_back))]
 pub fn write_file(binder: &SheetBinder, buffer: &mut [u8]) -> Result<usize, WriteRefusal>
     ensures answer { result ≡ write_judged (declarations binder.now) (length buffer.old) }
     ensures written { (count : ℕ) → result ≡ Ok count → buffer.new ≡ over (encode (declarations binder.now)) buffer.old }
@@ -108,10 +85,11 @@ pub fn write_file(binder: &SheetBinder, buffer: &mut [u8]) -> Result<usize, Writ
     if sheets.is_empty() {
         return Err(WriteRefusal::NoSheet);
     }
-    let size = size_of_file(sheets);
+    let file = file_of(sheets);
+    let size = file.len();
     if buffer.len() < size {
         return Err(WriteRefusal::ShortBuffer(size));
     }
-    write_sheets(sheets, buffer);
+    buffer[..size].copy_from_slice(&file);
     Ok(size)
 }

@@ -1,10 +1,15 @@
-use Rattle.std.proofs.Common.{◌≡◌, ◌-◌, ◌*◌, ◌≤◌, ◌++◌, length}
-use Rattle.sheets.specs.Faults.{meaning}
+use Rattle.std.proofs.Common.{◌≡◌, ◌-◌, ◌*◌, ◌≤◌, length}
 use Rattle.sheet_binder.specs.Declarations.{declarations}
-use Rattle.binder_file.specs.Format.{records_from}
+use Rattle.binder_file.proofs.Format.{ReadSoFar}
 use Rattle.binder_file.proofs.reading.read_sheets.Given as goal
 
-abbrev pub invariant-loop-i : goal.invariant-loop-i
-invariant-loop-i l =
-    (records_from 8 l.bytes (record { index = 0; place = 0 }) ≡ meaning (λ ds. declarations l.binder ++ ds) (records_from (8 - l.i) l.bytes l.start))
-    × (length (declarations l.binder) ≡ l.start.index) × (l.start.index ≤ l.i) × (l.start.place ≤ 65537 * l.i)
+abbrev pub invariant-loop-start : goal.invariant-loop-start
+invariant-loop-start l = record {
+  read : ReadSoFar l.bytes l.start (declarations l.binder);
+  count : length (declarations l.binder) ≡ l.start.index;
+  few : l.start.index ≤ 8;
+  near : l.start.place ≤ 65537 * l.start.index;
+}
+
+abbrev pub decreases-loop-start : goal.decreases-loop-start
+decreases-loop-start l = length l.bytes - l.start.place

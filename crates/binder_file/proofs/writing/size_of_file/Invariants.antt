@@ -1,7 +1,0 @@
-use Rattle.std.proofs.Common.{◌≡◌, ◌*◌, ◌≤◌, map, length, take}
-use Rattle.sheet_binder.specs.Declarations.{declared}
-use Rattle.binder_file.specs.Writing.{encode}
-use Rattle.binder_file.proofs.writing.size_of_file.Given as goal
-
-abbrev pub invariant-loop-sheet : goal.invariant-loop-sheet
-invariant-loop-sheet l = (l.size ≡ length (encode (map declared (take l.sheet-index l.sheets)))) × (l.size ≤ 84 * l.sheet-index)
