@@ -41,11 +41,9 @@ fn push_record<S: SheetKind>(sheet: &S, file: &mut FileBytes)
     ensures items { file.new.items ≡ file.old.items ++ record_bytes (S.SheetKind.declares sheet.now) }
     ensures few { array_vec_len file.new ≤ array_vec_len file.old + RECORD_ROOM }
 {
-    let count = sheet.field_count();
-    let mut fields = [0; 40];
-    sheet.put_fields(&mut fields);
-    push_words(&[(2 + 2 * count) as u16, S::tag()], file);
-    push_words(&fields[..count], file);
+    let fields = sheet.fields();
+    push_words(&[(2 + 2 * fields.len()) as u16, S::tag()], file);
+    push_words(&fields, file);
 }
 
 // Appends the record of a sheet.
