@@ -3,24 +3,14 @@ use Rattle.std.specs.List.{flat_map}
 use Rattle.sheets.specs.declared.row.Row.{Row}
 use Rattle.sheets.specs.declared.line.Line.{Line}
 use Rattle.sheets.specs.declared.fault.FileFault.{FileFault}
-use Rattle.sheets.specs.declared.fault.FileFault.TheVariants.{CutShort, UnknownKind, WrongLength, OutOfRange, OutOfOrder, RecordCount}
 use Rattle.demand.specs.declared.verdict.TestRefusal.{TestRefusal}
 use Rattle.demand.specs.declared.verdict.TestRefusal.TheVariants.{DemandExceeds, GainsExceed, SheetCount}
-use Rattle.sheets.specs.Faults.{fault_numbers}
-use Rattle.sheets.specs.Rows.{rows_gain}
-use Rattle.sheets.specs.Lines.{line_gain}
+use Rattle.sheets.specs.Faults.{fault_numbers, fault_words}
+use Rattle.sheets.specs.Rows.{rows_gain, row_words}
+use Rattle.sheets.specs.Lines.{line_gain, line_words}
 use Rattle.sheets.specs.Sheets.{Declaration, rows, line, component_bound, component_gain}
-use Rattle.demand.specs.Verdicts.{refusal_numbers}
+use Rattle.demand.specs.Verdicts.{refusal_numbers, refusal_words}
 use Rattle.demand.specs.Admission.{total, demand, admission, Tightest}
-
--- what is wrong with a record
-abbrev pub fault_words : FileFault → List ℕ
-fault_words (CutShort at) = codes "is cut short by the end of the file"
-fault_words (UnknownKind at) = codes "is of no known kind"
-fault_words (WrongLength at) = codes "has a length that no sheet of its kind has"
-fault_words (OutOfRange at) = codes "has a field outside its range"
-fault_words (OutOfOrder at) = codes "has a row that does not come after the one before"
-fault_words (RecordCount at) = codes "is one too few or too many: a file has one to eight"
 
 -- the line for a fault: its number, its place, its record and what is wrong
 abbrev pub fault_line : FileFault → List ℕ
@@ -29,15 +19,13 @@ fault_line f =
 
 -- a sheet: its kind and gain, then its fields
 abbrev pub row_line : Row → List ℕ
-row_line r =
-    codes "  period " ++ (decimal r.period ++ (codes " deadline " ++ (decimal r.deadline ++ (codes " budget " ++ (decimal r.budget ++ (codes " copies " ++ (decimal r.copies ++ codes "\n")))))))
+row_line r = codes "  " ++ (row_words r ++ codes "\n")
 
 abbrev pub sheet_head : ℕ → List ℕ → ℕ → List ℕ
 sheet_head i kind gain = codes "sheet " ++ (decimal i ++ (codes ": " ++ (kind ++ (codes ", gain " ++ (decimal gain ++ codes "\n")))))
 
 abbrev pub line_line : Line → List ℕ
-line_line x =
-    codes "  deadline " ++ (decimal x.deadline ++ (codes " burst " ++ (decimal x.burst ++ (codes " rate " ++ (decimal x.rate ++ (codes " per " ++ (decimal x.per ++ codes "\n")))))))
+line_line x = codes "  " ++ (line_words x ++ codes "\n")
 
 abbrev pub sheet_text : ℕ → Declaration → List ℕ
 sheet_text i (rows rs) = sheet_head i (codes "rows") (rows_gain rs) ++ flat_map row_line rs
@@ -68,12 +56,6 @@ refused_slack_line SheetCount demanded l free = least_line l free (codes "")
 abbrev pub slack_line : Result (Unit {0}) TestRefusal → (ℕ → ℕ) → ℕ → ℕ → List ℕ
 slack_line (Ok _) demanded l free = least_line l free (codes "")
 slack_line (Err e) demanded l free = refused_slack_line e demanded l free
-
--- why the test refuses a binder
-abbrev pub refusal_words : TestRefusal → List ℕ
-refusal_words (DemandExceeds x) = codes "the bounds add up to more than that length"
-refusal_words GainsExceed = codes "the gains add up to more than 4096"
-refusal_words SheetCount = codes "a binder has one to eight sheets"
 
 abbrev pub verdict_line : Result (Unit {0}) TestRefusal → List ℕ
 verdict_line (Ok _) = codes "admitted\n"

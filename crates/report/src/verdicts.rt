@@ -1,98 +1,65 @@
-ghost use Rattle.std.specs.Prelude.{◌≡◌, length as listed, IfOk, string_bytes};
+ghost use Rattle.std.specs.Prelude.{◌≡◌, ◌++◌, length, OnOk, string_bytes};
 ghost use Rattle.demand.specs.Admission.{demand};
 ghost use Rattle.sheets.specs.Sheets.{component_bound};
 ghost use Rattle.sheet_binder.specs.Declarations.{declarations};
-ghost use Rattle.report.specs.Text.{gains_line, least_line, excess_line, refused_slack_line, slack_line, refusal_words, verdict_line};
+ghost use Rattle.report.specs.Text.{refused_slack_line, slack_line, verdict_line};
 
-use demand::{TestRefusal, total_demand};
+use demand::{Slack, TestRefusal, total_demand};
 use sheet_binder::SheetBinder;
-use std::alloc::{AllocError, Global};
+use std::alloc::AllocError;
+use std::fmt::Write;
 
-pub(crate) fn line_for_gains(heap: Global, gains: u64) -> Result<String, AllocError>
-    ensures { IfOk result (λ s. string_bytes s ≡ gains_line gains) }
-{
-    format!(in heap; "gains {gains} of 4096\n")
-}
-
-fn line_for_least(
-    heap: Global,
-    length: u32,
-    slack: u64,
-    goes_on: &str,
-) -> Result<String, AllocError>
-    ensures { IfOk result (λ s. string_bytes s ≡ least_line length slack goes_on.now) }
-{
-    format!(in heap; "least slack {slack} at length {length}{goes_on}\n")
-}
-
-fn line_for_excess(heap: Global, length: u32, excess: u64) -> Result<String, AllocError>
-    ensures { IfOk result (λ s. string_bytes s ≡ excess_line length excess) }
-{
-    format!(in heap; "exceeded by {excess} at length {length}\n")
-}
-
-fn line_for_refused_slack(
-    heap: Global,
-    refusal: &TestRefusal,
+// Appends the line on the slack of a binder that is refused.
+fn write_refused_slack(
+    text: &mut String,
+    refusal: TestRefusal,
     binder: &SheetBinder,
-    length: u32,
-    slack: u64,
-) -> Result<String, AllocError>
-    ensures { IfOk result (λ s. string_bytes s ≡ refused_slack_line refusal.now (demand (listed (declarations binder.now)) (component_bound (declarations binder.now))) length slack) }
+    least: Slack,
+) -> Result<(), AllocError>
+    ensures { OnOk result (string_bytes text.new ≡ string_bytes text.old ++ refused_slack_line refusal (demand (length (declarations binder.now)) (component_bound (declarations binder.now))) least.length least.free) }
 {
-    match *refusal {
+    let Slack { length, free } = least;
+    match refusal {
         TestRefusal::DemandExceeds(at) => {
-            let excess = total_demand(binder, at).saturating_sub(at as u64);
-            line_for_excess(heap, at, excess)
+            let excess = total_demand(binder, at).saturating_sub(u64::from(at));
+            writeln!(text, "exceeded by {excess} at length {at}")
         }
-        TestRefusal::GainsExceed => line_for_least(
-            heap,
-            length,
-            slack,
-            ", and it falls without end",
+        TestRefusal::GainsExceed => writeln!(
+            text,
+            "least slack {free} at length {length}, and it falls without end"
         ),
-        TestRefusal::SheetCount => line_for_least(heap, length, slack, ""),
+        TestRefusal::SheetCount => writeln!(text, "least slack {free} at length {length}"),
     }
 }
 
-// The line on the least slack, `slack` at `length`, or on the excess.
-pub(crate) fn line_for_slack(
-    heap: Global,
+// Appends the line on the least slack, or on the excess.
+pub(crate) fn write_slack(
+    text: &mut String,
     verdict: Result<(), TestRefusal>,
     binder: &SheetBinder,
-    length: u32,
-    slack: u64,
-) -> Result<String, AllocError>
-    ensures { IfOk result (λ s. string_bytes s ≡ slack_line verdict (demand (listed (declarations binder.now)) (component_bound (declarations binder.now))) length slack) }
+    least: Slack,
+) -> Result<(), AllocError>
+    ensures { OnOk result (string_bytes text.new ≡ string_bytes text.old ++ slack_line verdict (demand (length (declarations binder.now)) (component_bound (declarations binder.now))) least.length least.free) }
 {
+    let Slack { length, free } = least;
     match verdict {
-        Ok(()) => line_for_least(heap, length, slack, ""),
-        Err(refusal) => line_for_refused_slack(heap, &refusal, binder, length, slack),
+        Ok(()) => writeln!(text, "least slack {free} at length {length}"),
+        Err(refusal) => write_refused_slack(text, refusal, binder, least),
     }
 }
 
-fn words_for(refusal: &TestRefusal) -> &'static str
-    ensures { result.now ≡ refusal_words refusal.now }
-{
-    match *refusal {
-        TestRefusal::DemandExceeds(_) => "the bounds add up to more than that length",
-        TestRefusal::GainsExceed => "the gains add up to more than 4096",
-        TestRefusal::SheetCount => "a binder has one to eight sheets",
-    }
-}
-
-pub(crate) fn line_for_verdict(
-    heap: Global,
+// Appends the verdict.
+pub(crate) fn write_verdict(
+    text: &mut String,
     verdict: Result<(), TestRefusal>,
-) -> Result<String, AllocError>
-    ensures { IfOk result (λ s. string_bytes s ≡ verdict_line verdict) }
+) -> Result<(), AllocError>
+    ensures { OnOk result (string_bytes text.new ≡ string_bytes text.old ++ verdict_line verdict) }
 {
     match verdict {
-        Ok(()) => String::from_str(heap, "admitted\n"),
+        Ok(()) => writeln!(text, "admitted"),
         Err(refusal) => {
             let (number, length) = refusal.numbers();
-            let words = words_for(&refusal);
-            format!(in heap; "refused {number} at {length}: {words}\n")
+            writeln!(text, "refused {number} at {length}: {refusal}")
         }
     }
 }
