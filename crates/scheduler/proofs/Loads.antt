@@ -3,8 +3,8 @@ use Rattle.std.proofs.Common.{◌≡◌, ℕ, suc, ◌+◌, ◌<◌, ◌≤◌, 
 use Rattle.std.proofs.lemmas.List.{length_push, get_or_push, get_or_append_left}
 use Rattle.std.proofs.lemmas.Bool.{cases_lt, cases_eq, cases_Bool, cond-true, cond-false, true≢false, false≢true, and_parts, and_from, and_left, eqb-true, leb-true, le-leb, eq-eqb, ne_eqb}
 use Rattle.demand.specs.Admission.{total}
-use Rattle.scheduler.specs.History.{History, Job, no_job, Fate, clock, jobs, count, job, gives, units, ends, inside, load}
-use Rattle.scheduler.specs.History.Event.{arrived, ticked}
+use Rattle.scheduler.specs.History.{History, Job, no_job, Fate, clock, jobs, count, job, gives, units, ends, inside, load, load_over}
+use Rattle.scheduler.specs.declared.calls.Event.TheVariants.{Arrived, Ticked}
 use Rattle.scheduler.specs.History.Fate.{pending, done, cut}
 use Rattle.scheduler.proofs.Sums.{sum_same, sum_le, sum_more, sum_has}
 
@@ -39,7 +39,7 @@ unfolding horizon
 due_before h n l = sum_has (count h) (λ i. (job h i).due) n l
 
 pub load_past : (h : History) (k t e : ℕ) → load h k t e ≤ load h k t (horizon h)
-unfolding load
+unfolding load_over
 load_past h k t e = sum_le (count h) _ _ (λ i l. share_le k t e (horizon h) (job h i) (units h i) (due_before h i l))
 
 -- the job that an arrival makes
@@ -48,7 +48,7 @@ born h k d = record { component = k; arrival = clock h; due = clock h + d }
 
 module _ (h : History) (k d m : ℕ) where
   -- what holds of each job before an arrival, and of the one that arrived, holds of each job after it
-  pub each_arrived : (P : ℕ → Job → Type 0) → ((n : ℕ) → n < count h → P n (job h n)) → P (count h) (born h k d) → (n : ℕ) → n < count (arrived k d m ∷ h) → P n (job (arrived k d m ∷ h) n)
+  pub each_arrived : (P : ℕ → Job → Type 0) → ((n : ℕ) → n < count h → P n (job h n)) → P (count h) (born h k d) → (n : ℕ) → n < count (Arrived k d m ∷ h) → P n (job (Arrived k d m ∷ h) n)
   each_arrived P old new n l =
       ⊎_elim
       (λ (lt : n < count h). subst (P n) (sym (get_or_append_left (jobs h) (born h k d ∷ []) no_job n lt)) (old n lt))
@@ -61,14 +61,14 @@ module _ (h : History) (k d m : ℕ) where
   zero_cond true x e = e
   zero_cond false x e = refl
 
-  pub load_arrived : units h (count h) ≡ 0 → (c s e : ℕ) → load (arrived k d m ∷ h) c s e ≡ load h c s e
-  unfolding load
+  pub load_arrived : units h (count h) ≡ 0 → (c s e : ℕ) → load (Arrived k d m ∷ h) c s e ≡ load h c s e
+  unfolding load_over
   load_arrived fresh c s e =
-      let now : ℕ → ℕ = λ n. cond (inside c s e (job (arrived k d m ∷ h) n)) (units h n) 0 in
+      let now : ℕ → ℕ = λ n. cond (inside c s e (job (Arrived k d m ∷ h) n)) (units h n) 0 in
       let was : ℕ → ℕ = λ n. cond (inside c s e (job h n)) (units h n) 0 in
-      let longer : count (arrived k d m ∷ h) ≡ suc (count h) = omega (arith, length_push (jobs h) (born h k d)) in
+      let longer : count (Arrived k d m ∷ h) ≡ suc (count h) = omega (arith, length_push (jobs h) (born h k d)) in
       let same : total (count h) now ≡ total (count h) was = sum_same (count h) now was (λ n l. ap (λ j. cond (inside c s e j) (units h n) 0) (get_or_append_left (jobs h) (born h k d ∷ []) no_job n l)) in
-      let last : now (count h) ≡ 0 = zero_cond (inside c s e (job (arrived k d m ∷ h) (count h))) (units h (count h)) fresh in
+      let last : now (count h) ≡ 0 = zero_cond (inside c s e (job (Arrived k d m ∷ h) (count h))) (units h (count h)) fresh in
       let more : total (suc (count h)) now ≡ total (count h) was = omega (arith, same, last) in
       ap (λ x. total x now) longer ∙ more
 
@@ -91,18 +91,18 @@ module _ (h : History) (held cuts : ℕ) where
   pub gives_other : (n i : ℕ) → (i ≡ n → ⊥) → gives (Some n) i ≡ 0
   gives_other n i ne = ap (λ b. cond b 1 0) (ne_eqb n i (λ e. ne (sym e)))
 
-  pub load_idle : (k s e : ℕ) → load (ticked None held cuts ∷ h) k s e ≡ load h k s e
-  unfolding load
+  pub load_idle : (k s e : ℕ) → load (Ticked None held cuts ∷ h) k s e ≡ load h k s e
+  unfolding load_over
   load_idle k s e = sum_same (count h) _ _ (λ n l. plus_none (inside k s e (job h n)) (units h n) 0 refl)
 
-  pub load_in : (n : ℕ) → n < count h → (k s e : ℕ) → inside k s e (job h n) ≡ true → load (ticked (Some n) held cuts ∷ h) k s e ≡ load h k s e + 1
-  unfolding load
+  pub load_in : (n : ℕ) → n < count h → (k s e : ℕ) → inside k s e (job h n) ≡ true → load (Ticked (Some n) held cuts ∷ h) k s e ≡ load h k s e + 1
+  unfolding load_over
   load_in n l k s e t =
       sum_more (count h) _ _ n l (plus_one (inside k s e (job h n)) (units h n) (gives (Some n) n) t (gives_self n))
       (λ i _ ne. plus_none (inside k s e (job h i)) (units h i) (gives (Some n) i) (gives_other n i ne))
 
-  pub load_out : (n k s e : ℕ) → inside k s e (job h n) ≡ false → load (ticked (Some n) held cuts ∷ h) k s e ≡ load h k s e
-  unfolding load
+  pub load_out : (n k s e : ℕ) → inside k s e (job h n) ≡ false → load (Ticked (Some n) held cuts ∷ h) k s e ≡ load h k s e
+  unfolding load_over
   load_out n k s e t = sum_same (count h) _ _ (λ i _. ⊎_elim (λ (same : i ≡ n). not_inside (inside k s e (job h i)) (units h i) (gives (Some n) i) (subst (λ x. inside k s e (job h x) ≡ false) (sym same) t)) (λ ne. plus_none (inside k s e (job h i)) (units h i) (gives (Some n) i) (gives_other n i ne)) (cases_eq i n))
 
 -- a fate after an event

@@ -3,8 +3,8 @@ use Rattle.std.proofs.Common.{◌≡◌, ℕ, zero, suc, ◌+◌, ◌-◌, ◌<�
 use Rattle.std.proofs.lemmas.Bool.{cases_lt, and_parts, and_from, eqb-true, leb-true, eq-eqb, le-leb}
 use Rattle.demand.specs.Admission.{total}
 use Rattle.scheduler.specs.declared.job.Job.{Job as Entry}
-use Rattle.scheduler.specs.History.{inside, Lies}
-use Rattle.scheduler.specs.Table.{at, job_in, used_in, load_over, table_load, OpenIn, FreeIn, Ascending}
+use Rattle.scheduler.specs.History.{inside, Lies, load_over}
+use Rattle.scheduler.specs.Table.{at, job_in, used_in, table_load, OpenIn, FreeIn, Ascending}
 use Rattle.scheduler.specs.Policing.{due_by, used_below, SpentFrom, LeastOf, Starts, Between}
 use Rattle.scheduler.proofs.Jobwise.{least, greatest, share_more}
 use Rattle.scheduler.proofs.Loads.{inside_true, inside_from}

@@ -3,8 +3,7 @@ use Rattle.std.specs.Prelude.{◌≡◌, ℕ, ◌+◌, ◌<◌, ◌≤◌, Bool,
 use Rattle.scheduler.specs.declared.job.Job.{Job as Entry}
 use Rattle.scheduler.specs.declared.job.JobStatus.{JobStatus}
 use Rattle.scheduler.specs.declared.job.JobStatus.TheVariants as status
-use Rattle.demand.specs.Admission.{total}
-use Rattle.scheduler.specs.History.{Job, inside}
+use Rattle.scheduler.specs.History.{Job, load_over}
 use Rattle.scheduler.specs.Windows.{Free}
 
 -- a record without a job
@@ -27,11 +26,6 @@ job_in js n = job_of (at js n)
 
 abbrev pub used_in : List Entry → ℕ → ℕ
 used_in js n = (at js n).used
-
--- Of so many jobs, by what each is and what it has run: the units that those of the component k that lie in the window have run,
--- those that have ended too.
-unfoldable pub load_over : ℕ → (ℕ → Job) → (ℕ → ℕ) → ℕ → ℕ → ℕ → ℕ
-load_over n job_at run k s e = total n (λ i. cond (inside k s e (job_at i)) (run i) 0)
 
 -- the load of a component in a window, by component, start and end
 abbrev pub table_load : List Entry → ℕ → ℕ → ℕ → ℕ

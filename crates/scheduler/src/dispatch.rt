@@ -1,7 +1,7 @@
 ghost use Rattle.std.specs.Prelude.{◌≡◌, ◌<◌, ◌≤◌, length, IfSome};
 ghost use Rattle.scheduler.specs.History.{Counts};
-ghost use Rattle.scheduler.specs.Order.{FirstOf};
 ghost use Rattle.scheduler.specs.Policing.{Proper, overtakes, first_of_two};
+ghost use Rattle.scheduler.specs.Order.{FirstOf};
 ghost use Rattle.scheduler.specs.Table.{Ascending, job_in, ReadyIn, HeldIn};
 
 use crate::job::Job;

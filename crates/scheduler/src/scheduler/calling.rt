@@ -3,7 +3,6 @@ ghost use Rattle.demand.specs.Admission.{admission};
 ghost use Rattle.demand.specs.Verdicts.{verdict_numbers};
 ghost use Rattle.scheduler.specs.History.{History};
 ghost use Rattle.scheduler.specs.Needs.{NeedsMetBy};
-ghost use Rattle.scheduler.specs.Numbers.{recorded_call, recorded_event};
 ghost use Rattle.scheduler.specs.Records.{jobs_of, SameBinder, Arrives, Finishes, TicksOn, Performs, Records, CertifiedBy};
 ghost use Rattle.scheduler.specs.Recording.{arrive_event, finish_event, tick_event};
 ghost use Rattle.scheduler.specs.Rules.{call_of};
@@ -42,7 +41,7 @@ impl<B: Binder> Scheduler<B> {
         ensures step { Arrives B.Binder self.old component deadline result self.new }
         ensures same_binder { SameBinder self.old self.new }
         ensures refused_changes_nothing { (e : CallRefusal) → result ≡ Err e → self.new ≡ self.old }
-        ensures recorded { (h : History) → Records B.Binder self.old h → Records B.Binder self.new (recorded_event (arrive_event component deadline result) ∷ h) }
+        ensures recorded { (h : History) → Records B.Binder self.old h → Records B.Binder self.new (arrive_event component deadline result ∷ h) }
         ensures certified { CertifiedBy B.Binder self.new }
     {
         if let Some(why) = self.arrive_refusal(component, deadline) {
@@ -65,7 +64,7 @@ impl<B: Binder> Scheduler<B> {
         ensures step { Finishes self.old job result self.new }
         ensures same_binder { SameBinder self.old self.new }
         ensures refused_changes_nothing { (e : CallRefusal) → result ≡ Err e → self.new ≡ self.old }
-        ensures recorded { (h : History) → Records B.Binder self.old h → Records B.Binder self.new (recorded_event (finish_event job result) ∷ h) }
+        ensures recorded { (h : History) → Records B.Binder self.old h → Records B.Binder self.new (finish_event job result ∷ h) }
         ensures certified { CertifiedBy B.Binder self.new }
     {
         if let Some(why) = self.finish_refusal(job) {
@@ -80,7 +79,7 @@ impl<B: Binder> Scheduler<B> {
         ensures step { TicksOn B.Binder self.old result self.new }
         ensures same_binder { SameBinder self.old self.new }
         ensures refused_changes_nothing { (e : CallRefusal) → result ≡ Err e → self.new ≡ self.old }
-        ensures recorded { (h : History) → Records B.Binder self.old h → Records B.Binder self.new (recorded_event (tick_event result) ∷ h) }
+        ensures recorded { (h : History) → Records B.Binder self.old h → Records B.Binder self.new (tick_event result ∷ h) }
         ensures certified { CertifiedBy B.Binder self.new }
         ensures needs_met { NeedsMetBy B.Binder self.new }
     {
@@ -100,11 +99,11 @@ impl<B: Binder> Scheduler<B> {
 
     // Any of the three calls, with its answer.
     pub fn perform(&mut self, call: Call) -> Event
-        ensures answers_the_call { call_of (recorded_event result) ≡ recorded_call call }
+        ensures answers_the_call { call_of result ≡ call }
         ensures step { Performs B.Binder self.old call result self.new }
         ensures same_binder { SameBinder self.old self.new }
         ensures refused_changes_nothing { (e : CallRefusal) → result ≡ Refused call e → self.new ≡ self.old }
-        ensures recorded { (h : History) → Records B.Binder self.old h → Records B.Binder self.new (recorded_event result ∷ h) }
+        ensures recorded { (h : History) → Records B.Binder self.old h → Records B.Binder self.new (result ∷ h) }
         ensures certified { CertifiedBy B.Binder self.new }
     {
         match call {
