@@ -146,7 +146,7 @@ module _ (p : Plan) (climbs : (k l m : ℕ) → l ≤ m → p.bound k l ≤ p.bo
   answered Tick n =
       let held = counted (Held p.bound h) held_decided (count h) in
       let cuts = counted (Cuts h) cuts_decided (count h) in
-      (Ticked runs.0 held.0 cuts.0, refl, (n, runs.1, held.1, cuts.1))
+      (Ticked (record { ran = runs.0; held = held.0; cut = cuts.0 }), refl, (n, runs.1, held.1, cuts.1))
 
   pub an_answer : (c : Call) → (e : Event) × (call_of e ≡ c) × Answers p e h
   an_answer c = ⊎_elim (answered c) (λ w. (Refused c w.0, refl, w.1)) (none_or (refusal_of p h c))

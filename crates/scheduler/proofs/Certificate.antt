@@ -13,12 +13,13 @@ use Rattle.scheduler.specs.declared.calls.CallRefusal.TheVariants.{NotAdmitted, 
 use Rattle.scheduler.specs.declared.calls.Event.{Event}
 use Rattle.scheduler.specs.History.{History, Job, Fate, clock, count, job, units, fate, Cuts, Counts, load_over}
 use Rattle.scheduler.specs.declared.calls.Event.TheVariants.{Arrived, Finished, Ticked, Refused}
+use Rattle.scheduler.specs.declared.calls.Ticked.{Ticked as TickAnswered}
 use Rattle.scheduler.specs.History.Fate.{pending, done, cut}
 use Rattle.scheduler.specs.Windows.{Ready, Held}
 use Rattle.scheduler.specs.Order.{Precedes, FirstOf}
 use Rattle.scheduler.specs.Reasons.{arrive_reason, finish_reason, tick_reason}
 use Rattle.scheduler.specs.Rules.{Plan, admitted, is_pending, refusal_of, call_of, Answers, Follows, Certified}
-use Rattle.scheduler.proofs.Weak.{May, MayAll}
+use Rattle.scheduler.proofs.Weak.{Picks, May, MayAll}
 use Rattle.scheduler.proofs.Soundness.{Sound, sound}
 
 -- a refusal that does not apply
@@ -61,13 +62,16 @@ first_due h n m (inl e) = omega (arith, ap (λ k. (job h k).due) e)
 first_due h n m (inr (inl l)) = omega arith
 first_due h n m (inr (inr q)) = omega (arith, q.0)
 
+first_picked : (p : Plan) (h : History) (ran : Option ℕ) → FirstOf (job h) (Ready p.bound h) ran → Picks p.bound h ran
+first_picked p h (Some n) first = (first.0, λ m r. first_due h n m (first.1 m r))
+first_picked p h None none = none
+
 -- what the rules give is what the two laws need
 weaker : (p : Plan) (e : Event) (h : History) → Answers p e h → May p.parts p.bound e h
 weaker p (Arrived k d n) h a = let w = arrive_accepted (admitted p) p.parts (clock h) (count h) k d a.0 in (w.1, w.2)
 weaker p (Finished n u) h a =
     let w = finish_accepted (admitted p) (count h) n (is_pending (fate h n)) a.0 in (w.1, is_pending_so (fate h n) w.2)
-weaker p (Ticked (Some n) held cuts) h a = (a.1.0, λ m r. first_due h n m (a.1.1 m r))
-weaker p (Ticked None held cuts) h a = a.1
+weaker p (Ticked x) h a = first_picked p h x.ran a.1
 weaker p (Refused c why) h a = tt
 
 pub all_weaker_rules : (p : Plan) (h : History) → Follows p h → MayAll p.parts p.bound h
@@ -97,7 +101,7 @@ module _ (p : Plan) (climbs : (k l m : ℕ) → l ≤ m → p.bound k l ≤ p.bo
   no_jobs n [] f = refl
   no_jobs n (Arrived k d m ∷ h) f = absurd (not_none n (passes (not (admitted p)) NotAdmitted _ f.0.0).0)
   no_jobs n (Finished m u ∷ h) f = no_jobs n h f.1
-  no_jobs n (Ticked ran held cuts ∷ h) f = no_jobs n h f.1
+  no_jobs n (Ticked x ∷ h) f = no_jobs n h f.1
   no_jobs n (Refused c why ∷ h) f = no_jobs n h f.1
 
   -- a job's component is one of the binder's
@@ -152,26 +156,27 @@ accepted p h e c why s a b = none_some (refusal_of p h c) why (ap (refusal_of p 
 pub answers_once : (p : Plan) (h : History) (e f : Event) → call_of e ≡ call_of f → Answers p e h → Answers p f h → e ≡ f
 answers_once p h (Arrived k d n) (Arrived k' d' n') s a b = let x = a.1 in let y = b.1 in cc
 answers_once p h (Arrived k d n) (Finished m u) s a b = let z : ◌≡◌ {A = ℕ} 0 1 = cc in absurd (omega arith)
-answers_once p h (Arrived k d n) (Ticked r x y) s a b = let z : ◌≡◌ {A = ℕ} 0 1 = cc in absurd (omega arith)
+answers_once p h (Arrived k d n) (Ticked x) s a b = let z : ◌≡◌ {A = ℕ} 0 1 = cc in absurd (omega arith)
 answers_once p h (Arrived k d n) (Refused c why) s a b = absurd (accepted p h (Arrived k d n) c why s a.0 b)
 answers_once p h (Finished m u) (Arrived k d n) s a b = let z : ◌≡◌ {A = ℕ} 0 1 = cc in absurd (omega arith)
 answers_once p h (Finished m u) (Finished m' u') s a b =
     let same : m ≡ m' = cc in
     let used : u ≡ u' = a.1 ∙ ap (units h) same ∙ sym b.1 in
     cc
-answers_once p h (Finished m u) (Ticked r x y) s a b = let z : ◌≡◌ {A = ℕ} 0 1 = cc in absurd (omega arith)
+answers_once p h (Finished m u) (Ticked x) s a b = let z : ◌≡◌ {A = ℕ} 0 1 = cc in absurd (omega arith)
 answers_once p h (Finished m u) (Refused c why) s a b = absurd (accepted p h (Finished m u) c why s a.0 b)
-answers_once p h (Ticked r x y) (Arrived k d n) s a b = let z : ◌≡◌ {A = ℕ} 0 1 = cc in absurd (omega arith)
-answers_once p h (Ticked r x y) (Finished m u) s a b = let z : ◌≡◌ {A = ℕ} 0 1 = cc in absurd (omega arith)
-answers_once p h (Ticked r x y) (Ticked r' x' y') s a b =
-    let ran = runs_once p h r r' a.1 b.1 in
-    let held = counts_once (Held p.bound h) (count h) x x' a.2 b.2 in
-    let cuts = counts_once (Cuts h) (count h) y y' a.3 b.3 in
-    cc
-answers_once p h (Ticked r x y) (Refused c why) s a b = absurd (accepted p h (Ticked r x y) c why s a.0 b)
+answers_once p h (Ticked x) (Arrived k d n) s a b = let z : ◌≡◌ {A = ℕ} 0 1 = cc in absurd (omega arith)
+answers_once p h (Ticked x) (Finished m u) s a b = let z : ◌≡◌ {A = ℕ} 0 1 = cc in absurd (omega arith)
+answers_once p h (Ticked x) (Ticked y) s a b =
+    let ran = runs_once p h x.ran y.ran a.1 b.1 in
+    let held = counts_once (Held p.bound h) (count h) x.held y.held a.2 b.2 in
+    let cut = counts_once (Cuts h) (count h) x.cut y.cut a.3 b.3 in
+    let same : ◌≡◌ {A = TickAnswered} (record { ran = x.ran; held = x.held; cut = x.cut }) (record { ran = y.ran; held = y.held; cut = y.cut }) = cc in
+    ap (λ (z : TickAnswered). Ticked z) same
+answers_once p h (Ticked x) (Refused c why) s a b = absurd (accepted p h (Ticked x) c why s a.0 b)
 answers_once p h (Refused c why) (Arrived k d n) s a b = absurd (accepted p h (Arrived k d n) c why (sym s) b.0 a)
 answers_once p h (Refused c why) (Finished m u) s a b = absurd (accepted p h (Finished m u) c why (sym s) b.0 a)
-answers_once p h (Refused c why) (Ticked r x y) s a b = absurd (accepted p h (Ticked r x y) c why (sym s) b.0 a)
+answers_once p h (Refused c why) (Ticked x) s a b = absurd (accepted p h (Ticked x) c why (sym s) b.0 a)
 answers_once p h (Refused c why) (Refused c' why') s a b =
     let same : why ≡ why' = same_why (refusal_of p h c) why why' a (ap (refusal_of p h) s ∙ b) in
     cc

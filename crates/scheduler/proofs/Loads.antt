@@ -5,6 +5,7 @@ use Rattle.std.proofs.lemmas.Bool.{cases_lt, cases_eq, cases_Bool, cond-true, co
 use Rattle.demand.specs.Admission.{total}
 use Rattle.scheduler.specs.History.{History, Job, no_job, Fate, clock, jobs, count, job, gives, units, ends, inside, load, load_over}
 use Rattle.scheduler.specs.declared.calls.Event.TheVariants.{Arrived, Ticked}
+use Rattle.scheduler.specs.declared.calls.Ticked.{Ticked as TickAnswered}
 use Rattle.scheduler.specs.History.Fate.{pending, done, cut}
 use Rattle.scheduler.proofs.Sums.{sum_same, sum_le, sum_more, sum_has}
 
@@ -72,7 +73,7 @@ module _ (h : History) (k d m : ℕ) where
       let more : total (suc (count h)) now ≡ total (count h) was = omega (arith, same, last) in
       ap (λ x. total x now) longer ∙ more
 
-module _ (h : History) (held cuts : ℕ) where
+module _ (h : History) (x : TickAnswered) where
   plus_none : (b : Bool) (x y : ℕ) → y ≡ 0 → cond b (x + y) 0 ≡ cond b x 0
   plus_none true x y e = omega arith
   plus_none false x y e = refl
@@ -85,25 +86,28 @@ module _ (h : History) (held cuts : ℕ) where
   not_inside true x y b = absurd (true≢false b)
   not_inside false x y b = refl
 
-  gives_self : (n : ℕ) → gives (Some n) n ≡ 1
-  gives_self n = ap (λ b. cond b 1 0) (eq-eqb n n refl)
-
-  pub gives_other : (n i : ℕ) → (i ≡ n → ⊥) → gives (Some n) i ≡ 0
-  gives_other n i ne = ap (λ b. cond b 1 0) (ne_eqb n i (λ e. ne (sym e)))
-
-  pub load_idle : (k s e : ℕ) → load (Ticked None held cuts ∷ h) k s e ≡ load h k s e
+  pub load_idle : x.ran ≡ None → (k s e : ℕ) → load (Ticked x ∷ h) k s e ≡ load h k s e
   unfolding load_over
-  load_idle k s e = sum_same (count h) _ _ (λ n l. plus_none (inside k s e (job h n)) (units h n) 0 refl)
+  load_idle none k s e =
+      sum_same (count h) _ _ (λ n l. plus_none (inside k s e (job h n)) (units h n) (gives x.ran n) (ap (λ o. gives o n) none))
 
-  pub load_in : (n : ℕ) → n < count h → (k s e : ℕ) → inside k s e (job h n) ≡ true → load (Ticked (Some n) held cuts ∷ h) k s e ≡ load h k s e + 1
-  unfolding load_over
-  load_in n l k s e t =
-      sum_more (count h) _ _ n l (plus_one (inside k s e (job h n)) (units h n) (gives (Some n) n) t (gives_self n))
-      (λ i _ ne. plus_none (inside k s e (job h i)) (units h i) (gives (Some n) i) (gives_other n i ne))
+  -- where the tick ran the job n
+  module _ (n : ℕ) (ran : x.ran ≡ Some n) where
+    gives_self : gives x.ran n ≡ 1
+    gives_self = ap (λ o. gives o n) ran ∙ ap (λ b. cond b 1 0) (eq-eqb n n refl)
 
-  pub load_out : (n k s e : ℕ) → inside k s e (job h n) ≡ false → load (Ticked (Some n) held cuts ∷ h) k s e ≡ load h k s e
-  unfolding load_over
-  load_out n k s e t = sum_same (count h) _ _ (λ i _. ⊎_elim (λ (same : i ≡ n). not_inside (inside k s e (job h i)) (units h i) (gives (Some n) i) (subst (λ x. inside k s e (job h x) ≡ false) (sym same) t)) (λ ne. plus_none (inside k s e (job h i)) (units h i) (gives (Some n) i) (gives_other n i ne)) (cases_eq i n))
+    pub gives_other : (i : ℕ) → (i ≡ n → ⊥) → gives x.ran i ≡ 0
+    gives_other i ne = ap (λ o. gives o i) ran ∙ ap (λ b. cond b 1 0) (ne_eqb n i (λ e. ne (sym e)))
+
+    pub load_in : n < count h → (k s e : ℕ) → inside k s e (job h n) ≡ true → load (Ticked x ∷ h) k s e ≡ load h k s e + 1
+    unfolding load_over
+    load_in l k s e t =
+        sum_more (count h) _ _ n l (plus_one (inside k s e (job h n)) (units h n) (gives x.ran n) t gives_self)
+        (λ i _ ne. plus_none (inside k s e (job h i)) (units h i) (gives x.ran i) (gives_other i ne))
+
+    pub load_out : (k s e : ℕ) → inside k s e (job h n) ≡ false → load (Ticked x ∷ h) k s e ≡ load h k s e
+    unfolding load_over
+    load_out k s e t = sum_same (count h) _ _ (λ i _. ⊎_elim (λ (same : i ≡ n). not_inside (inside k s e (job h i)) (units h i) (gives x.ran i) (subst (λ m. inside k s e (job h m) ≡ false) (sym same) t)) (λ ne. plus_none (inside k s e (job h i)) (units h i) (gives x.ran i) (gives_other i ne)) (cases_eq i n))
 
 -- a fate after an event
 pub pending_cut : (f : Fate) → f ≡ pending → f ≡ cut → ⊥

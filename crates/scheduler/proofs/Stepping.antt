@@ -10,7 +10,7 @@ use Rattle.scheduler.specs.Reasons.{arrive_reason, finish_reason}
 use Rattle.scheduler.specs.Rules.{Plan, admitted, is_pending}
 use Rattle.scheduler.specs.Table.{at, is_open}
 use Rattle.scheduler.specs.Steps.{unless}
-use Rattle.scheduler.specs.Recording.{is_admitted, arrive_leaves, finish_leaves, TickAnswer, clock_after, arrive_event, finish_event, tick_event, Recorded}
+use Rattle.scheduler.specs.Recording.{is_admitted, arrive_leaves, finish_leaves, TickAnswer, clock_after, event_of, Recorded}
 use Rattle.scheduler.proofs.Certificate.{is_pending_so, arrive_accepted, finish_accepted, sound_of}
 use Rattle.scheduler.proofs.Recorded.{arrive_same, finish_refused_same, tick_same, refused_recorded, arrived_recorded, finished_recorded}
 use Rattle.scheduler.proofs.Ticking.{ticked_recorded}
@@ -25,7 +25,7 @@ unless_err (Some v) x w e = let same : v ≡ w = cc in ap (λ u. Some u) same
 
 module _ (p : Plan) (climbs : (k l m : ℕ) → l ≤ m → p.bound k l ≤ p.bound k m) (repeats : (k l : ℕ) → 4096 ≤ l → p.bound k (l + 4096) ≡ p.bound k l + p.gain k)
     (v : ℕ × ℕ) (now : ℕ) (js : List Entry) (h : History) (r : Recorded p v now js h) where
-  pub arrive_recorded : (k d : ℕ) (a : Result ℕ CallRefusal) (after : List Entry) → a ≡ unless (arrive_reason (is_admitted v) p.parts now (length js) k d) (length js) → after ≡ arrive_leaves now js k d a → Recorded p v now after (arrive_event k d a ∷ h)
+  pub arrive_recorded : (k d : ℕ) (a : Result ℕ CallRefusal) (after : List Entry) → a ≡ unless (arrive_reason (is_admitted v) p.parts now (length js) k d) (length js) → after ≡ arrive_leaves now js k d a → Recorded p v now after (event_of (Arrive k d) (event.Arrived k d) a ∷ h)
   arrive_recorded k d (Ok n) after e t =
       let q = unless_ok _ (length js) n e in
       let ok = sym (arrive_same p v now js h r k d) ∙ q.0 in
@@ -36,7 +36,7 @@ module _ (p : Plan) (climbs : (k l m : ℕ) → l ≤ m → p.bound k l ≤ p.bo
       subst (λ xs. Recorded p v now xs (event.Refused (Arrive k d) w ∷ h)) (sym t)
       (refused_recorded p v now js h r (Arrive k d) w (sym (arrive_same p v now js h r k d) ∙ unless_err _ (length js) w e))
 
-  pub finish_recorded : (n : ℕ) (a : Result ℕ CallRefusal) (after : List Entry) → a ≡ unless (finish_reason (is_admitted v) (length js) n (is_open (at js n).status)) (at js n).used → after ≡ finish_leaves js n a → Recorded p v now after (finish_event n a ∷ h)
+  pub finish_recorded : (n : ℕ) (a : Result ℕ CallRefusal) (after : List Entry) → a ≡ unless (finish_reason (is_admitted v) (length js) n (is_open (at js n).status)) (at js n).used → after ≡ finish_leaves js n a → Recorded p v now after (event_of (Finish n) (event.Finished n) a ∷ h)
   finish_recorded n (Ok u) after e t =
       let q = unless_ok _ (at js n).used u e in
       let ok = sym (finish_refused_same p v now js h r n) ∙ q.0 in
@@ -48,7 +48,7 @@ module _ (p : Plan) (climbs : (k l m : ℕ) → l ≤ m → p.bound k l ≤ p.bo
       subst (λ xs. Recorded p v now xs (event.Refused (Finish n) w ∷ h)) (sym t)
       (refused_recorded p v now js h r (Finish n) w (sym (finish_refused_same p v now js h r n) ∙ unless_err _ (at js n).used w e))
 
-  pub tick_recorded : (a : Result Ticked CallRefusal) (after : List Entry) → TickAnswer p.bound v now js a after → Recorded p v (clock_after now a) after (tick_event a ∷ h)
+  pub tick_recorded : (a : Result Ticked CallRefusal) (after : List Entry) → TickAnswer p.bound v now js a after → Recorded p v (clock_after now a) after (event_of Tick event.Ticked a ∷ h)
   tick_recorded (Ok x) after t = ticked_recorded p v now js h r x after t.1 (sym (tick_same p v now js h r) ∙ t.0)
   tick_recorded (Err w) after t =
       subst (λ xs. Recorded p v now xs (event.Refused Tick w ∷ h)) (sym t.1)

@@ -124,11 +124,11 @@ module _ (p : Plan) (v : ℕ × ℕ) (now : ℕ) (js : List Entry) (h : History)
     late₁ : (n : ℕ) → n < count h → late h n ≡ leb (job h n).due now
     late₁ n l = true_and (ltb n (count h)) (leb (job h n).due (clock h)) (lt-ltb n (count h) l) ∙ ap (leb (job h n).due) (sym r.clocked)
 
-    fate_next : (n : ℕ) → n < count h → fate₁ n ≡ fate (Ticked x.ran x.held x.cut ∷ h) n
+    fate_next : (n : ℕ) → n < count h → fate₁ n ≡ fate (Ticked x ∷ h) n
     fate_next n l = ap (λ b. cond b (ends (fate h n) cut) (fate h n)) (sym (late₁ n l))
 
     abbrev with_units : ℕ → ℕ → Entry
-    with_units n u = record { number = n; component = (job h n).component; arrival = (job h n).arrival; due = (job h n).due; used = u; status = status_of (fate (Ticked x.ran x.held x.cut ∷ h) n) }
+    with_units n u = record { number = n; component = (job h n).component; arrival = (job h n).arrival; due = (job h n).due; used = u; status = status_of (fate (Ticked x ∷ h) n) }
 
     cut_only : (n : ℕ) → n < count h → at js₁ n ≡ with_units n (units h n)
     cut_only n l = at₁ n l ∙ ap (with_fate h n) (fate_next n l)
@@ -155,7 +155,7 @@ module _ (p : Plan) (v : ℕ × ℕ) (now : ℕ) (js : List Entry) (h : History)
         first_same (job_in js₁) (job h) (ReadyIn p.bound js₁) (Ready p.bound h) ready_so ready_from
         (λ n w. job₁ n (omega (arith, w.0.0, length₁))) x.ran t.first_ran
 
-    pub ticked_recorded : refusal_of p h Tick ≡ None → Recorded p v (now + 1) after (Ticked x.ran x.held x.cut ∷ h)
+    pub ticked_recorded : refusal_of p h Tick ≡ None → Recorded p v (now + 1) after (Ticked x ∷ h)
     ticked_recorded ok =
         record {
           tested = r.tested;

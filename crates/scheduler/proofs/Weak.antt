@@ -22,7 +22,7 @@ Picks bound h ran = Earliest (Ready bound h) (λ n. (job h n).due) ran
 abbrev pub May : ℕ → (ℕ → ℕ → ℕ) → Event → History → Type 0
 May parts bound (Arrived k d n) h = (k < parts) × (1 ≤ d)
 May parts bound (Finished n u) h = Open h n
-May parts bound (Ticked ran held cuts) h = Picks bound h ran
+May parts bound (Ticked x) h = Picks bound h x.ran
 May parts bound (Refused c why) h = Unit {0}
 
 abbrev pub MayAll : ℕ → (ℕ → ℕ → ℕ) → History → Type 0

@@ -14,7 +14,7 @@ abbrev pub clock : History → ℕ
 clock [] = 0
 clock (Arrived k d n ∷ h) = clock h
 clock (Finished n u ∷ h) = clock h
-clock (Ticked ran held cuts ∷ h) = clock h + 1
+clock (Ticked x ∷ h) = clock h + 1
 clock (Refused c why ∷ h) = clock h
 
 -- an accepted arrival
@@ -31,7 +31,7 @@ abbrev pub jobs : History → List Job
 jobs [] = []
 jobs (Arrived k d n ∷ h) = jobs h ++ (record { component = k; arrival = clock h; due = clock h + d } ∷ [])
 jobs (Finished n u ∷ h) = jobs h
-jobs (Ticked ran held cuts ∷ h) = jobs h
+jobs (Ticked x ∷ h) = jobs h
 jobs (Refused c why ∷ h) = jobs h
 
 abbrev pub count : History → ℕ
@@ -50,7 +50,7 @@ abbrev pub units : History → ℕ → ℕ
 units [] n = 0
 units (Arrived k d m ∷ h) n = units h n
 units (Finished m u ∷ h) n = units h n
-units (Ticked ran held cuts ∷ h) n = units h n + gives ran n
+units (Ticked x ∷ h) n = units h n + gives x.ran n
 units (Refused c why ∷ h) n = units h n
 
 -- how a job stands: open, finished, or cut at its deadline; a number that no job has yet counts as open
@@ -72,7 +72,7 @@ abbrev pub fate : History → ℕ → Fate
 fate [] n = pending
 fate (Arrived k d m ∷ h) n = fate h n
 fate (Finished m u ∷ h) n = cond (m == n) (ends (fate h n) done) (fate h n)
-fate (Ticked ran held cuts ∷ h) n = cond (late h n) (ends (fate h n) cut) (fate h n)
+fate (Ticked x ∷ h) n = cond (late h n) (ends (fate h n) cut) (fate h n)
 fate (Refused c why ∷ h) n = fate h n
 
 abbrev pub Open : History → ℕ → Type 0

@@ -2,10 +2,10 @@
 use Rattle.std.specs.Prelude.{◌≡◌, ℕ, ◌+◌, ◌<◌, Bool, List, [], ◌∷◌, ◌++◌, length, Some, None, Ok, Err, Result, ◌==◌, slice_set}
 use Rattle.demand.specs.Admission.{admission}
 use Rattle.demand.specs.Verdicts.{verdict_numbers}
-use Rattle.scheduler.specs.declared.calls.Call.TheVariants.{Arrive, Finish, Tick}
+use Rattle.scheduler.specs.declared.calls.Call.{Call}
 use Rattle.scheduler.specs.declared.calls.CallRefusal.{CallRefusal}
 use Rattle.scheduler.specs.declared.calls.Event.{Event}
-use Rattle.scheduler.specs.declared.calls.Event.TheVariants as event
+use Rattle.scheduler.specs.declared.calls.Event.TheVariants.{Refused}
 use Rattle.scheduler.specs.declared.calls.Ticked.{Ticked}
 use Rattle.scheduler.specs.declared.job.Ending.TheVariants as ending
 use Rattle.scheduler.specs.declared.job.Job.{Job as Entry}
@@ -49,18 +49,10 @@ abbrev pub clock_after : ℕ → Result Ticked CallRefusal → ℕ
 clock_after now (Ok x) = now + 1
 clock_after now (Err e) = now
 
--- a call with the answer that it got
-abbrev pub arrive_event : ℕ → ℕ → Result ℕ CallRefusal → Event
-arrive_event k d (Ok n) = event.Arrived k d n
-arrive_event k d (Err e) = event.Refused (Arrive k d) e
-
-abbrev pub finish_event : ℕ → Result ℕ CallRefusal → Event
-finish_event n (Ok u) = event.Finished n u
-finish_event n (Err e) = event.Refused (Finish n) e
-
-abbrev pub tick_event : Result Ticked CallRefusal → Event
-tick_event (Ok x) = event.Ticked x.ran x.held x.cut
-tick_event (Err e) = event.Refused Tick e
+-- a call with the answer that it got: what an accepted one is recorded as, or its refusal
+abbrev pub event_of : {X : Type 0} → Call → (X → Event) → Result X CallRefusal → Event
+event_of c accepted (Ok x) = accepted x
+event_of c accepted (Err e) = Refused c e
 
 -- the record of job n that a history calls for
 abbrev pub status_of : Fate → JobStatus

@@ -58,7 +58,7 @@ refusal_of p h Tick = tick_refusal p h
 abbrev pub call_of : Event → Call
 call_of (Arrived k d n) = Arrive k d
 call_of (Finished n u) = Finish n
-call_of (Ticked ran held cuts) = Tick
+call_of (Ticked x) = Tick
 call_of (Refused c why) = c
 
 -- The answer is the one that the rules give after this history. At a tick the open jobs that are due at the clock or earlier are cut
@@ -66,7 +66,7 @@ call_of (Refused c why) = c
 abbrev pub Answers : Plan → Event → History → Type 0
 Answers p (Arrived k d n) h = (arrive_refusal p h k d ≡ None) × (n ≡ count h)
 Answers p (Finished n u) h = (finish_refusal p h n ≡ None) × (u ≡ units h n)
-Answers p (Ticked ran held cuts) h = (tick_refusal p h ≡ None) × RunsFirst p h ran × Counts (Held p.bound h) (count h) held × Counts (Cuts h) (count h) cuts
+Answers p (Ticked x) h = (tick_refusal p h ≡ None) × RunsFirst p h x.ran × Counts (Held p.bound h) (count h) x.held × Counts (Cuts h) (count h) x.cut
 Answers p (Refused c why) h = refusal_of p h c ≡ Some why
 
 -- every answer of the history follows the rules

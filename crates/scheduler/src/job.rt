@@ -1,5 +1,5 @@
 // How a job record stands: no job in it yet, open, finished by its component, or cut at its deadline.
-#[derive(Clone, Copy)]
+#[derive(Clone, Copy, PartialEq, Eq, Debug)]
 pub enum JobStatus {
     Empty,
     Open,
@@ -8,7 +8,7 @@ pub enum JobStatus {
 }
 
 // What ends an open job: its component finishes it, or its due tick has come.
-#[derive(Clone, Copy)]
+#[derive(Clone, Copy, PartialEq, Eq, Debug)]
 pub enum Ending {
     Finish,
     Due,
@@ -16,7 +16,7 @@ pub enum Ending {
 
 // One record of the job table. A job is numbered in the order of acceptance, arrives at a tick and is due at a later one, and has
 // used so many units of core time.
-#[derive(Clone, Copy)]
+#[derive(Clone, Copy, PartialEq, Eq, Debug)]
 pub struct Job {
     pub number: usize,
     pub component: u32,
