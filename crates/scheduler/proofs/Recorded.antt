@@ -1,11 +1,8 @@
 -- Each call keeps the scheduler in step with its history.
-use Rattle.std.proofs.Common.{◌≡◌, ℕ, ◌+◌, ◌<◌, ◌≤◌, Bool, true, cond, not, eqb, leb, List, [], ◌∷◌, ◌++◌, length, set, is_ok, Some, None, Ok, Err, Option, Result, sym, refl, ap, ◌∙◌, subst, ⊎_elim, arith, length-set, get_or-set_other, get_or-set_same}
+use Rattle.std.proofs.Common.{◌≡◌, ℕ, ◌+◌, ◌<◌, ◌≤◌, Bool, true, cond, not, eqb, leb, List, [], ◌∷◌, ◌++◌, length, set, is_ok, Some, None, Option, Result, sym, refl, ap, ◌∙◌, subst, ⊎_elim, arith, length-set, get_or-set_other, get_or-set_same}
 use Rattle.std.proofs.lemmas.List.{length_push, get_or_push, get_or_append_left}
 use Rattle.std.proofs.lemmas.Bool.{cases_lt, cases_eq, cond-true, cond-false, eq-eqb, ne_eqb, le-leb, false≢true}
-use Rattle.demand.specs.Admission.{admission}
-use Rattle.demand.specs.Verdicts.{verdict_numbers}
 use Rattle.demand.specs.declared.verdict.TestRefusal.{TestRefusal}
-use Rattle.demand.specs.declared.verdict.TestRefusal.TheVariants.{DemandExceeds, GainsExceed, SheetCount}
 use Rattle.scheduler.specs.declared.calls.Call.{Call}
 use Rattle.scheduler.specs.declared.calls.Call.TheVariants.{Arrive, Finish, Tick}
 use Rattle.scheduler.specs.declared.calls.CallRefusal.{CallRefusal}
@@ -21,16 +18,9 @@ use Rattle.scheduler.specs.Rules.{Plan, admitted, is_pending, refusal_of}
 use Rattle.scheduler.specs.Table.{at, empty_entry, is_open}
 use Rattle.scheduler.specs.Steps.{with_status, ended}
 use Rattle.scheduler.specs.Steps as steps
-use Rattle.scheduler.specs.Recording.{is_admitted, status_of, entry_of, Recorded}
+use Rattle.scheduler.specs.Recording.{status_of, entry_of, Recorded}
 use Rattle.scheduler.proofs.Loads.{born}
 use Rattle.scheduler.proofs.Soundness.{Sound}
-
--- the verdict in numbers says whether the binder is admitted
-verdict_admits : (r : Result (Unit {0}) TestRefusal) → is_admitted (verdict_numbers r) ≡ is_ok r
-verdict_admits (Ok x) = refl
-verdict_admits (Err (DemandExceeds l)) = refl
-verdict_admits (Err GainsExceed) = refl
-verdict_admits (Err SheetCount) = refl
 
 open_pending : (f : Fate) → is_open (status_of f) ≡ is_pending f
 open_pending pending = refl
@@ -57,24 +47,24 @@ made_of h n j = record { number = n; component = j.component; arrival = j.arriva
 abbrev pub with_fate : History → ℕ → Fate → Entry
 with_fate h n f = record { number = n; component = (job h n).component; arrival = (job h n).arrival; due = (job h n).due; used = units h n; status = status_of f }
 
-module _ (p : Plan) (v : ℕ × ℕ) (now : ℕ) (js : List Entry) (h : History) (r : Recorded p v now js h) where
-  ok_same : is_admitted v ≡ admitted p
-  ok_same = ap is_admitted r.tested ∙ verdict_admits (admission p.parts p.bound p.gain)
+module _ (p : Plan) (v : Result (Unit {0}) TestRefusal) (now : ℕ) (js : List Entry) (h : History) (r : Recorded p v now js h) where
+  ok_same : is_ok v ≡ admitted p
+  ok_same = ap is_ok r.tested
 
-  pub arrive_same : (k d : ℕ) → arrive_reason (is_admitted v) p.parts now (length js) k d ≡ refusal_of p h (Arrive k d)
+  pub arrive_same : (k d : ℕ) → arrive_reason (is_ok v) p.parts now (length js) k d ≡ refusal_of p h (Arrive k d)
   arrive_same k d =
       ap (λ b. arrive_reason b p.parts now (length js) k d) ok_same
       ∙ ap (λ t. arrive_reason (admitted p) p.parts t (length js) k d) r.clocked
       ∙ ap (λ n. arrive_reason (admitted p) p.parts (clock h) n k d) r.counted
 
-  pub finish_refused_same : (n : ℕ) → finish_reason (is_admitted v) (length js) n (is_open (at js n).status) ≡ refusal_of p h (Finish n)
+  pub finish_refused_same : (n : ℕ) → finish_reason (is_ok v) (length js) n (is_open (at js n).status) ≡ refusal_of p h (Finish n)
   finish_refused_same n =
       ap (λ b. finish_reason b (length js) n (is_open (at js n).status)) ok_same
       ∙ ap (λ m. finish_reason (admitted p) m n (is_open (at js n).status)) r.counted
       ∙ finish_same (admitted p) (is_open (at js n).status) (is_pending (fate h n)) n (count h)
       (λ l. ap (λ (j : Entry). is_open j.status) (r.each n l) ∙ open_pending (fate h n))
 
-  pub tick_same : tick_reason (is_admitted v) now ≡ refusal_of p h Tick
+  pub tick_same : tick_reason (is_ok v) now ≡ refusal_of p h Tick
   tick_same = ap (λ b. tick_reason b now) ok_same ∙ ap (tick_reason (admitted p)) r.clocked
 
   pub refused_recorded : (c : Call) (e : CallRefusal) → refusal_of p h c ≡ Some e → Recorded p v now js (Refused c e ∷ h)

@@ -1,5 +1,6 @@
 -- From a call's step on the records to its place in the history.
-use Rattle.std.proofs.Common.{◌≡◌, ℕ, ◌+◌, ◌≤◌, List, ◌∷◌, length, Some, None, Ok, Err, Option, Result, sym, refl, ap, ◌∙◌, subst, arith}
+use Rattle.std.proofs.Common.{◌≡◌, ℕ, ◌+◌, ◌≤◌, List, ◌∷◌, length, is_ok, Some, None, Ok, Err, Option, Result, sym, refl, ap, ◌∙◌, subst, arith}
+use Rattle.demand.specs.declared.verdict.TestRefusal.{TestRefusal}
 use Rattle.scheduler.specs.declared.calls.Call.TheVariants.{Arrive, Finish, Tick}
 use Rattle.scheduler.specs.declared.calls.CallRefusal.{CallRefusal}
 use Rattle.scheduler.specs.declared.calls.Event.TheVariants as event
@@ -10,12 +11,12 @@ use Rattle.scheduler.specs.Reasons.{arrive_reason, finish_reason}
 use Rattle.scheduler.specs.Rules.{Plan, admitted, is_pending}
 use Rattle.scheduler.specs.Table.{at, is_open}
 use Rattle.scheduler.specs.Steps.{unless}
-use Rattle.scheduler.specs.Recording.{is_admitted, arrive_leaves, finish_leaves, TickAnswer, clock_after, event_of, Recorded}
+use Rattle.scheduler.specs.Recording.{arrive_leaves, finish_leaves, TickAnswer, clock_after, event_of, Recorded}
 use Rattle.scheduler.proofs.Certificate.{is_pending_so, arrive_accepted, finish_accepted, sound_of}
 use Rattle.scheduler.proofs.Recorded.{arrive_same, finish_refused_same, tick_same, refused_recorded, arrived_recorded, finished_recorded}
 use Rattle.scheduler.proofs.Ticking.{ticked_recorded}
 
-unless_ok : {X : Type 0} (o : Option CallRefusal) (x y : X) → Ok y ≡ unless o x → (o ≡ None) × (y ≡ x)
+pub unless_ok : {X : Type 0} (o : Option CallRefusal) (x y : X) → Ok y ≡ unless o x → (o ≡ None) × (y ≡ x)
 unless_ok None x y e = let same : y ≡ x = cc in (refl, same)
 unless_ok (Some w) x y e = let z : ◌≡◌ {A = ℕ} 0 1 = cc in absurd (omega arith)
 
@@ -24,8 +25,8 @@ unless_err None x w e = let z : ◌≡◌ {A = ℕ} 0 1 = cc in absurd (omega ar
 unless_err (Some v) x w e = let same : v ≡ w = cc in ap (λ u. Some u) same
 
 module _ (p : Plan) (climbs : (k l m : ℕ) → l ≤ m → p.bound k l ≤ p.bound k m) (repeats : (k l : ℕ) → 4096 ≤ l → p.bound k (l + 4096) ≡ p.bound k l + p.gain k)
-    (v : ℕ × ℕ) (now : ℕ) (js : List Entry) (h : History) (r : Recorded p v now js h) where
-  pub arrive_recorded : (k d : ℕ) (a : Result ℕ CallRefusal) (after : List Entry) → a ≡ unless (arrive_reason (is_admitted v) p.parts now (length js) k d) (length js) → after ≡ arrive_leaves now js k d a → Recorded p v now after (event_of (Arrive k d) (event.Arrived k d) a ∷ h)
+    (v : Result (Unit {0}) TestRefusal) (now : ℕ) (js : List Entry) (h : History) (r : Recorded p v now js h) where
+  pub arrive_recorded : (k d : ℕ) (a : Result ℕ CallRefusal) (after : List Entry) → a ≡ unless (arrive_reason (is_ok v) p.parts now (length js) k d) (length js) → after ≡ arrive_leaves now js k d a → Recorded p v now after (event_of (Arrive k d) (event.Arrived k d) a ∷ h)
   arrive_recorded k d (Ok n) after e t =
       let q = unless_ok _ (length js) n e in
       let ok = sym (arrive_same p v now js h r k d) ∙ q.0 in
@@ -36,7 +37,7 @@ module _ (p : Plan) (climbs : (k l m : ℕ) → l ≤ m → p.bound k l ≤ p.bo
       subst (λ xs. Recorded p v now xs (event.Refused (Arrive k d) w ∷ h)) (sym t)
       (refused_recorded p v now js h r (Arrive k d) w (sym (arrive_same p v now js h r k d) ∙ unless_err _ (length js) w e))
 
-  pub finish_recorded : (n : ℕ) (a : Result ℕ CallRefusal) (after : List Entry) → a ≡ unless (finish_reason (is_admitted v) (length js) n (is_open (at js n).status)) (at js n).used → after ≡ finish_leaves js n a → Recorded p v now after (event_of (Finish n) (event.Finished n) a ∷ h)
+  pub finish_recorded : (n : ℕ) (a : Result ℕ CallRefusal) (after : List Entry) → a ≡ unless (finish_reason (is_ok v) (length js) n (is_open (at js n).status)) (at js n).used → after ≡ finish_leaves js n a → Recorded p v now after (event_of (Finish n) (event.Finished n) a ∷ h)
   finish_recorded n (Ok u) after e t =
       let q = unless_ok _ (at js n).used u e in
       let ok = sym (finish_refused_same p v now js h r n) ∙ q.0 in

@@ -1,8 +1,9 @@
 -- A tick keeps the scheduler in step with its history.
-use Rattle.std.proofs.Common.{◌≡◌, ℕ, zero, suc, ◌+◌, ◌<◌, Bool, true, false, cond, ◌&&◌, eqb, ltb, leb, ◌⊎◌, List, ◌∷◌, length, Some, None, Option, sym, refl, ap, ◌∙◌, subst, inl, inr, ⊎_elim, arith, get_or-set_other, get_or-set_same}
+use Rattle.std.proofs.Common.{◌≡◌, ℕ, zero, suc, ◌+◌, ◌<◌, Bool, true, false, cond, ◌&&◌, eqb, ltb, leb, ◌⊎◌, List, ◌∷◌, length, Some, None, Option, Result, sym, refl, ap, ◌∙◌, subst, inl, inr, ⊎_elim, arith, get_or-set_other, get_or-set_same}
 use lib.ListN.{length-map}
 use Rattle.std.proofs.lemmas.List.{get_or-map}
 use Rattle.std.proofs.lemmas.Bool.{cases_eq, cond-true, cond-false, eq-eqb, ne_eqb, le-leb, leb-true, leb-false, lt-leb, lt-ltb, and_from, and_parts, false≢true}
+use Rattle.demand.specs.declared.verdict.TestRefusal.{TestRefusal}
 use Rattle.scheduler.specs.declared.calls.Call.TheVariants.{Tick}
 use Rattle.scheduler.specs.declared.calls.Event.TheVariants.{Ticked}
 use Rattle.scheduler.specs.declared.calls.Ticked.{Ticked as TickAnswered}
@@ -52,7 +53,7 @@ cut_fate true h n done = refl
 cut_fate true h n cut = refl
 cut_fate false h n f = refl
 
-module _ (p : Plan) (v : ℕ × ℕ) (now : ℕ) (js : List Entry) (h : History) (r : Recorded p v now js h) where
+module _ (p : Plan) (v : Result (Unit {0}) TestRefusal) (now : ℕ) (js : List Entry) (h : History) (r : Recorded p v now js h) where
   -- the records after the cuts
   abbrev js₁ : List Entry
   js₁ = cut_due now js

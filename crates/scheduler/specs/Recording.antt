@@ -1,7 +1,7 @@
 -- What a scheduler records: the table and the clock are those that its history calls for, and the history follows the rules.
-use Rattle.std.specs.Prelude.{◌≡◌, ℕ, ◌+◌, ◌<◌, Bool, List, [], ◌∷◌, ◌++◌, length, Some, None, Ok, Err, Result, ◌==◌, slice_set}
+use Rattle.std.specs.Prelude.{◌≡◌, ℕ, ◌+◌, ◌<◌, List, [], ◌∷◌, ◌++◌, length, is_ok, Some, None, Ok, Err, Result, slice_set}
 use Rattle.demand.specs.Admission.{admission}
-use Rattle.demand.specs.Verdicts.{verdict_numbers}
+use Rattle.demand.specs.declared.verdict.TestRefusal.{TestRefusal}
 use Rattle.scheduler.specs.declared.calls.Call.{Call}
 use Rattle.scheduler.specs.declared.calls.CallRefusal.{CallRefusal}
 use Rattle.scheduler.specs.declared.calls.Event.{Event}
@@ -18,10 +18,6 @@ use Rattle.scheduler.specs.Reasons.{tick_reason}
 use Rattle.scheduler.specs.Rules.{Plan, Follows}
 use Rattle.scheduler.specs.Table.{at, job_in, ReadyIn, HeldIn}
 use Rattle.scheduler.specs.Steps.{ended, cut_due, DueIn, with_unit, born}
-
--- a verdict in numbers that admits
-abbrev pub is_admitted : ℕ × ℕ → Bool
-is_admitted verdict = verdict.0 == 0
 
 -- the records after an arrive, and after a finish
 abbrev pub arrive_leaves : ℕ → List Entry → ℕ → ℕ → Result ℕ CallRefusal → List Entry
@@ -40,9 +36,9 @@ pub record Ticks (bound : ℕ → ℕ → ℕ) (now : ℕ) (js : List Entry) (x 
   pub first_ran : FirstOf (job_in (cut_due now js)) (ReadyIn bound (cut_due now js)) x.ran
   pub one_unit_more : after ≡ with_unit x.ran (cut_due now js)
 
-abbrev pub TickAnswer : (ℕ → ℕ → ℕ) → (ℕ × ℕ) → ℕ → List Entry → Result Ticked CallRefusal → List Entry → Type 0
-TickAnswer bound verdict now js (Ok x) after = (tick_reason (is_admitted verdict) now ≡ None) × Ticks bound now js x after
-TickAnswer bound verdict now js (Err e) after = (tick_reason (is_admitted verdict) now ≡ Some e) × (after ≡ js)
+abbrev pub TickAnswer : (ℕ → ℕ → ℕ) → Result (Unit {0}) TestRefusal → ℕ → List Entry → Result Ticked CallRefusal → List Entry → Type 0
+TickAnswer bound verdict now js (Ok x) after = (tick_reason (is_ok verdict) now ≡ None) × Ticks bound now js x after
+TickAnswer bound verdict now js (Err e) after = (tick_reason (is_ok verdict) now ≡ Some e) × (after ≡ js)
 
 -- an accepted tick raises the clock, also when nothing ran
 abbrev pub clock_after : ℕ → Result Ticked CallRefusal → ℕ
@@ -65,8 +61,8 @@ entry_of h n = record { number = n; component = (job h n).component; arrival = (
 
 -- The verdict is the admission test's, the clock and the records are those that the history calls for, and every answer in the history
 -- follows the rules.
-pub record Recorded (p : Plan) (verdict : ℕ × ℕ) (now : ℕ) (js : List Entry) (h : History) : Type 0 where
-  pub tested : verdict ≡ verdict_numbers (admission p.parts p.bound p.gain)
+pub record Recorded (p : Plan) (verdict : Result (Unit {0}) TestRefusal) (now : ℕ) (js : List Entry) (h : History) : Type 0 where
+  pub tested : verdict ≡ admission p.parts p.bound p.gain
   pub clocked : now ≡ clock h
   pub counted : length js ≡ count h
   pub each : (n : ℕ) → n < count h → at js n ≡ entry_of h n

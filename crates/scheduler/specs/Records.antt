@@ -1,5 +1,5 @@
 -- The calls of a scheduler, over any kind of binder.
-use Rattle.std.specs.Prelude.{◌≡◌, ℕ, List, length, Option, Result}
+use Rattle.std.specs.Prelude.{◌≡◌, ℕ, List, length, is_ok, Option, Result}
 use Rattle.demand.specs.declared.binder.Binder.{Ghosts}
 use Rattle.scheduler.specs.declared.calls.Call.{Call}
 use Rattle.scheduler.specs.declared.calls.Call.TheVariants.{Arrive, Finish, Tick}
@@ -14,7 +14,7 @@ use Rattle.scheduler.specs.Reasons.{arrive_reason, finish_reason, tick_reason}
 use Rattle.scheduler.specs.Rules.{plan_of, Certified}
 use Rattle.scheduler.specs.Table.{at, is_open}
 use Rattle.scheduler.specs.Steps.{unless, records}
-use Rattle.scheduler.specs.Recording.{is_admitted, arrive_leaves, finish_leaves, TickAnswer, clock_after, event_of, Recorded}
+use Rattle.scheduler.specs.Recording.{arrive_leaves, finish_leaves, TickAnswer, clock_after, event_of, Recorded}
 
 module _ {B : Type 0} where
   abbrev pub jobs_of : Scheduler B → List Entry
@@ -22,13 +22,13 @@ module _ {B : Type 0} where
 
   -- the refusals of the three calls
   abbrev pub arrive_refused : Ghosts B → Scheduler B → ℕ → ℕ → Option CallRefusal
-  arrive_refused g s k d = arrive_reason (is_admitted s.verdict) (g.count s.binder) s.clock (length (jobs_of s)) k d
+  arrive_refused g s k d = arrive_reason (is_ok s.verdict) (g.count s.binder) s.clock (length (jobs_of s)) k d
 
   abbrev pub finish_refused : Scheduler B → ℕ → Option CallRefusal
-  finish_refused s n = finish_reason (is_admitted s.verdict) (length (jobs_of s)) n (is_open (at (jobs_of s) n).status)
+  finish_refused s n = finish_reason (is_ok s.verdict) (length (jobs_of s)) n (is_open (at (jobs_of s) n).status)
 
   abbrev pub tick_refused : Scheduler B → Option CallRefusal
-  tick_refused s = tick_reason (is_admitted s.verdict) s.clock
+  tick_refused s = tick_reason (is_ok s.verdict) s.clock
 
   -- binder and verdict are those of making
   pub record SameBinder (s t : Scheduler B) : Type 0 where

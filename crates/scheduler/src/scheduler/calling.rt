@@ -1,6 +1,5 @@
 ghost use Rattle.std.specs.Prelude.{◌≡◌, [], ◌∷◌, replicate, Err};
 ghost use Rattle.demand.specs.Admission.{admission};
-ghost use Rattle.demand.specs.Verdicts.{verdict_numbers};
 ghost use Rattle.scheduler.specs.History.{History};
 ghost use Rattle.scheduler.specs.Needs.{NeedsMetBy};
 ghost use Rattle.scheduler.specs.Records.{jobs_of, SameBinder, Arrives, Finishes, TicksOn, Performs, Records, CertifiedBy};
@@ -17,19 +16,19 @@ use crate::dispatch::survey;
 use crate::job::{Ending, Job, JobStatus};
 use crate::scheduler::Scheduler;
 use crate::table::JobTable;
-use demand::{Binder, admission_test};
+use demand::{Binder, admit};
 
 impl<B: Binder> Scheduler<B> {
     // A scheduler over the binder before any call, with the admission test's verdict.
     pub fn new(binder: B) -> Scheduler<B>
         ensures same_binder { result.binder ≡ binder }
-        ensures verdict { result.verdict ≡ verdict_numbers (admission (B.Binder.count binder) (B.Binder.bound binder) (B.Binder.gain binder)) }
+        ensures verdict { result.verdict ≡ admission (B.Binder.count binder) (B.Binder.bound binder) (B.Binder.gain binder) }
         ensures clock { result.clock ≡ 0 }
         ensures no_job { jobs_of result ≡ [] }
         ensures all_empty { result.table.jobs ≡ replicate 96 empty_entry }
         ensures recorded { Records B.Binder result [] }
     {
-        let verdict = admission_test(&binder);
+        let verdict = admit(&binder);
         Scheduler {
             binder,
             verdict,
@@ -46,9 +45,7 @@ impl<B: Binder> Scheduler<B> {
         ensures recorded { (h : History) → Records B.Binder self.old h → Records B.Binder self.new (event_of (Arrive component deadline) (Arrived component deadline) result ∷ h) }
         ensures certified { CertifiedBy B.Binder self.new }
     {
-        if let Some(why) = self.arrive_refusal(component, deadline) {
-            return Err(why);
-        }
+        self.judge_arrive(component, deadline)?;
         let number = self.table.count;
         self.table.add(Job {
             number,
@@ -69,9 +66,7 @@ impl<B: Binder> Scheduler<B> {
         ensures recorded { (h : History) → Records B.Binder self.old h → Records B.Binder self.new (event_of (Finish job) (Finished job) result ∷ h) }
         ensures certified { CertifiedBy B.Binder self.new }
     {
-        if let Some(why) = self.finish_refusal(job) {
-            return Err(why);
-        }
+        self.judge_finish(job)?;
         self.table.end(job, Ending::Finish)
     }
 
@@ -85,9 +80,7 @@ impl<B: Binder> Scheduler<B> {
         ensures certified { CertifiedBy B.Binder self.new }
         ensures needs_met { NeedsMetBy B.Binder self.new }
     {
-        if let Some(why) = self.tick_refusal() {
-            return Err(why);
-        }
+        self.judge_tick()?;
         let cut = self.table.cut_due(self.clock);
         let choice = survey(&self.binder, self.table.records());
         self.table.run(choice.first);

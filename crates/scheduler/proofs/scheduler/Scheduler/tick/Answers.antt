@@ -1,36 +1,31 @@
-use Rattle.std.proofs.Common.{◌≡◌, ℕ, ◌+◌, ◌-◌, ◌^◌, ◌<◌, List, length, Some, Ok, Err, Option, sym, refl, ap, ◌∙◌, subst, arith}
+use Rattle.std.proofs.Common.{◌≡◌, ℕ, ◌+◌, ◌-◌, ◌^◌, ◌<◌, List, length, is_ok, Some, Ok, Option, sym, refl, ap, ◌∙◌, subst, arith}
 use Rattle.scheduler.specs.declared.job.Job.{Job as Entry}
 use Rattle.scheduler.specs.declared.calls.Ticked.{Ticked}
 use Rattle.scheduler.specs.History.{Counts}
 use Rattle.scheduler.specs.Policing.{Proper}
 use Rattle.scheduler.specs.Steps.{records, cut_due, with_unit}
 use Rattle.scheduler.specs.Table.{at, job_in, ReadyIn, HeldIn, Numbered, Dated, Slow, Ascending}
-use Rattle.scheduler.specs.Recording.{is_admitted, Ticks}
+use Rattle.scheduler.specs.Recording.{Ticks}
 use Rattle.scheduler.specs.Records.{jobs_of}
 use Rattle.scheduler.specs.Order.{FirstOf}
 use Rattle.scheduler.specs.Rules.{plan_of}
 use Rattle.scheduler.proofs.Certificate.{tick_accepted, certified}
 use Rattle.scheduler.proofs.Chosen.{where_some}
 use Rattle.scheduler.proofs.Keeping.{cut_length, cut_each, open_later, numbered_same, dated_same, slow_same, ascending_same, numbered_ran, dated_ran, slow_ran, ascending_ran}
-use Rattle.scheduler.proofs.Stepping.{tick_recorded}
+use Rattle.scheduler.proofs.Stepping.{unless_ok, tick_recorded}
 use Rattle.scheduler.proofs.Needed.{needs_met}
 use Rattle.scheduler.proofs.scheduler.Scheduler.tick.Goals as goal
 
-pub returns-in-Some : goal.returns-in-Some
-returns-in-Some g c =
+pub returns-in_err-judge_tick-clause-certified : goal.returns-in_err-judge_tick-clause-certified
+returns-in_err-judge_tick-clause-certified g c =
+    let s = c.args.self.now in
+    λ h r. certified (plan_of g.B.Binder s.binder) (g.met.B.Binder.climbs s.binder) (g.met.B.Binder.repeats s.binder) h r.follows
+
+pub returns-in_err-judge_tick-clause-needs_met : goal.returns-in_err-judge_tick-clause-needs_met
+returns-in_err-judge_tick-clause-needs_met g c =
     let s = c.args.self.now in
     let p = plan_of g.B.Binder s.binder in
-    let climbs = g.met.B.Binder.climbs s.binder in
-    let repeats = g.met.B.Binder.repeats s.binder in
-    let refused = sym c.tick_refusal.ensures ∙ c.in-Some.is in
-    record {
-      step = record { answers = (refused, refl); clock_rises = refl };
-      same_binder = record { binder_kept = refl; verdict_kept = refl };
-      refused_changes_nothing = λ e q. refl;
-      recorded = λ h r. tick_recorded p climbs repeats s.verdict s.clock (jobs_of s) h r (Err c.in-Some.why) (jobs_of s) (refused, refl);
-      certified = λ h r. certified p climbs repeats h r.follows;
-      needs_met = λ h r. needs_met p.bound h (certified p climbs repeats h r.follows);
-    }
+    λ h r. needs_met p.bound h (certified p (g.met.B.Binder.climbs s.binder) (g.met.B.Binder.repeats s.binder) h r.follows)
 
 -- the records after the cuts
 module _ (now : ℕ) (js : List Entry) (dated : Dated now js) (slow : Slow now js) (up : Ascending js) where
@@ -94,7 +89,7 @@ invariant_of-self g c =
     let w = slow₁ now js s.dated s.slow s.ascending in
     let u = up₁ now js s.dated s.slow s.ascending in
     record {
-      early = tick_accepted (is_admitted s.verdict) now (sym c.in_default.ensures) s.early;
+      early = tick_accepted (is_ok s.verdict) now (unless_ok _ tt _ c.in_ok-judge_tick.ensures).0 s.early;
       numbered = subst Numbered (sym after) (numbered_ran now (cut_due now js) d w u o known (numbered_same now js (cut_due now js) (cut_length now js) (cut_each now js) s.numbered));
       dated = subst (Dated (now + 1)) (sym after) (dated_ran now (cut_due now js) d w u o known);
       slow = subst (Slow (now + 1)) (sym after) (slow_ran now (cut_due now js) d w u o known);
@@ -120,7 +115,7 @@ returns g c =
       first_ran = subst (λ xs. FirstOf (job_in xs) (ReadyIn p.bound xs) o) e c.survey-choice.ensures.first;
       one_unit_more = c.run.ensures ∙ ap (with_unit o) c.cut_due-cut.ensures.after;
     } in
-    let accepted = sym c.in_default.ensures in
+    let accepted = (unless_ok _ tt _ c.in_ok-judge_tick.ensures).0 in
     record {
       step = record { answers = (accepted, ticks); clock_rises = refl };
       same_binder = record { binder_kept = refl; verdict_kept = refl };
