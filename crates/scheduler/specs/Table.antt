@@ -24,6 +24,9 @@ job_of j = record { component = j.component; arrival = j.arrival; due = j.due }
 abbrev pub job_in : List Entry → ℕ → Job
 job_in js n = job_of (at js n)
 
+abbrev pub arrival_in : List Entry → ℕ → ℕ
+arrival_in js n = (at js n).arrival
+
 abbrev pub used_in : List Entry → ℕ → ℕ
 used_in js n = (at js n).used
 

@@ -38,7 +38,6 @@ impl<B: Binder> Scheduler<B> {
         ensures in_range { IfSome result (InRange self.now.clock n) }
         ensures known_component { (h : History) → Records B.Binder self.now h → IfSome result (λ j. j.component < B.Binder.count self.now.binder) }
     {
-        let jobs = self.table.records();
-        if n < jobs.len() { Some(jobs[n]) } else { None }
+        self.table.records().get(n).copied()
     }
 }

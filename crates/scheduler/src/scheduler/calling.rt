@@ -12,8 +12,8 @@ ghost use Rattle.scheduler.specs.declared.calls.Event.TheVariants.{Arrived, Fini
 ghost use Rattle.scheduler.specs.declared.calls.Event.TheVariants as event;
 
 use crate::calls::{Call, CallRefusal, Event, Ticked};
-use crate::dispatch::survey;
 use crate::job::{Ending, Job, JobStatus};
+use crate::policing::Roster;
 use crate::scheduler::Scheduler;
 use crate::table::JobTable;
 use demand::{Binder, admit};
@@ -82,7 +82,10 @@ impl<B: Binder> Scheduler<B> {
     {
         self.judge_tick()?;
         let cut = self.table.cut_due(self.clock);
-        let choice = survey(&self.binder, self.table.records());
+        let roster = Roster {
+            jobs: self.table.records(),
+        };
+        let choice = roster.survey(&self.binder);
         self.table.run(choice.first);
         self.clock += 1;
         Ok(Ticked {

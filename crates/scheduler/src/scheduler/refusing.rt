@@ -3,7 +3,6 @@ ghost use Rattle.scheduler.specs.Records.{arrive_refused, finish_refused, tick_r
 ghost use Rattle.scheduler.specs.Steps.{unless};
 
 use crate::calls::CallRefusal;
-use crate::policing::is_open;
 use crate::scheduler::Scheduler;
 use demand::Binder;
 
@@ -41,7 +40,7 @@ impl<B: Binder> Scheduler<B> {
         }
         match self.table.records().get(job) {
             None => Err(CallRefusal::NoJob),
-            Some(job) if !is_open(job) => Err(CallRefusal::NotOpen),
+            Some(job) if !job.is_open() => Err(CallRefusal::NotOpen),
             Some(_) => Ok(()),
         }
     }

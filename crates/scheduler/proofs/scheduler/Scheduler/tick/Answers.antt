@@ -46,15 +46,17 @@ module _ (now : ℕ) (js : List Entry) (dated : Dated now js) (slow : Slow now j
     ran_open : (n : ℕ) → o ≡ Some n → (n < length (cut_due now js)) × (now < (at (cut_due now js) n).due)
     ran_open n e = let r = (subst (FirstOf (job_in (cut_due now js)) (ReadyIn bound (cut_due now js))) e first).0 in (r.0.0, open_later now js n r.0)
 
-pub survey-choice-requires : goal.survey-choice-requires
-survey-choice-requires g c =
+pub invariant_of-roster : goal.invariant_of-roster
+invariant_of-roster g c =
     let s = c.args.self.now in
     let now = s.clock in
     let js = jobs_of s in
-    let e : c.records.result.now ≡ cut_due now js = c.records.ensures.value ∙ c.cut_due-cut.ensures.after in (
-      omega (arith, c.records.ensures.len, c.cut_due-cut.new.self.few),
-      (subst Proper (sym e) (proper₁ now js s.dated s.slow s.ascending), subst Ascending (sym e) (up₁ now js s.dated s.slow s.ascending)),
-    )
+    let e : c.records.result.now ≡ cut_due now js = c.records.ensures.value ∙ c.cut_due-cut.ensures.after in
+    record {
+      few = omega (arith, c.records.ensures.len, c.cut_due-cut.new.self.few);
+      proper = subst Proper (sym e) (proper₁ now js s.dated s.slow s.ascending);
+      ascending = subst Ascending (sym e) (up₁ now js s.dated s.slow s.ascending);
+    }
 
 pub run-requires : goal.run-requires
 run-requires g c =
