@@ -14,7 +14,7 @@ pub(crate) struct Choice {
     pub(crate) held: usize,
 }
 
-impl<'a> Roster<'a> {
+impl Roster<'_> {
     // The first of the job so far and job n, whose number is higher.
     fn first_of_two(&self, first: Option<usize>, n: usize) -> Option<usize>
         requires { (n < length self.now.jobs.now) × (IfSome first (λ i. i < length self.now.jobs.now)) }

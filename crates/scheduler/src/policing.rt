@@ -16,7 +16,7 @@ pub(crate) struct Roster<'a> {
     ghost ascending: { Ascending jobs.now },
 }
 
-impl<'a> Roster<'a> {
+impl Roster<'_> {
     // Whether some open job of the component of `last` is due by its due tick.
     fn has_open_by(&self, last: &Job) -> bool
         ensures { Decides result (OpenBy self.now.jobs.now last.now.component last.now.due) }

@@ -1,4 +1,5 @@
-ghost use Rattle.std.specs.Prelude.{◌≤◌, take};
+ghost use Rattle.std.specs.Prelude.{◌≤◌};
+ghost use Rattle.scheduler.specs.Steps.{records};
 ghost use Rattle.scheduler.specs.Table.{Numbered, Dated, Slow, Ascending};
 
 mod asking;
@@ -16,8 +17,8 @@ pub struct Scheduler<B> {
     pub(crate) clock: u32,
     pub(crate) table: JobTable,
     ghost early: { clock ≤ 1000000 },
-    ghost numbered: { Numbered (take table.count table.jobs) },
-    ghost dated: { Dated clock (take table.count table.jobs) },
-    ghost slow: { Slow clock (take table.count table.jobs) },
-    ghost ascending: { Ascending (take table.count table.jobs) },
+    ghost numbered: { Numbered (records table) },
+    ghost dated: { Dated clock (records table) },
+    ghost slow: { Slow clock (records table) },
+    ghost ascending: { Ascending (records table) },
 }
