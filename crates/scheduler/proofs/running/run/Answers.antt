@@ -1,28 +1,9 @@
-use Rattle.std.proofs.Common.{◌≡◌, List, [], ◌∷◌, ◌++◌, map, reverse, take, vec_items, sym, ap, ◌∙◌, subst}
-use Rattle.std.proofs.lemmas.List.{take_more, take_all, map_push, reverse-append}
-use Rattle.scheduler.specs.declared.calls.Call.{Call}
-use Rattle.scheduler.specs.declared.calls.Call.TheVariants.{Arrive}
-use Rattle.scheduler.specs.Rules.{plan_of, call_of, Follows}
-use Rattle.scheduler.specs.Records.{Records}
+use Rattle.std.proofs.Common.{reverse, vec_items, sym, ◌∙◌, subst}
+use Rattle.std.proofs.lemmas.List.{take_all}
+use Rattle.scheduler.specs.Rules.{plan_of, Follows}
 use Rattle.scheduler.proofs.Certificate.{certified, no_other_answers}
 use Rattle.scheduler.proofs.Needed.{needs_met}
 use Rattle.scheduler.proofs.running.run.Goals as goal
-
-pub loop-call-preserved : goal.loop-call-preserved
-loop-call-preserved g c =
-    let old = vec_items c.loop-call.events in
-    let calls = c.args.calls.now in
-    let event = c.perform-event.result in
-    let s = c.perform-event.new.self in
-    let i = c.loop-call.call-index in
-    let pushed : vec_items c.push.new.self ≡ old ++ (event ∷ []) = c.in_ok-push.ensures.items in (
-      c.perform-event.ensures.same_binder.binder_kept ∙ c.loop-call.invariant.0,
-      subst (Records g.B.Binder s) (sym (ap reverse pushed ∙ reverse-append old (event ∷ []))) (c.perform-event.ensures.recorded (reverse old) c.loop-call.invariant.1),
-      ap (map call_of) pushed ∙ map_push call_of old event
-          ∙ ap (λ (xs : List Call). xs ++ (call_of event ∷ [])) c.loop-call.invariant.2
-          ∙ ap (λ (x : Call). take i calls ++ (x ∷ [])) c.perform-event.ensures.answers_the_call
-          ∙ sym (take_more calls i (Arrive 0 0) c.loop-call-test.true),
-    )
 
 pub returns : goal.returns
 returns g c =

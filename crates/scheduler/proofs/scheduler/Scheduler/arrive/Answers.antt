@@ -1,4 +1,4 @@
-use Rattle.std.proofs.Common.{◌≡◌, ℕ, length, is_ok, Ok, sym, refl, ap, ◌∙◌, subst, arith, length-take-le}
+use Rattle.std.proofs.Common.{◌≡◌, ℕ, length, is_ok, Ok, sym, ap, ◌∙◌, subst, arith, length-take-le}
 use Rattle.scheduler.specs.Steps.{unless, records}
 use Rattle.scheduler.specs.Table.{Numbered, Dated, Slow, Ascending}
 use Rattle.scheduler.specs.Records.{jobs_of}
@@ -29,19 +29,17 @@ invariant_of-self g c =
       ascending = subst Ascending (sym c.add.ensures) (ascending_push now (jobs_of s) n k d w.2 w.3 s.dated s.ascending);
     }
 
-pub returns : goal.returns
-returns g c =
+pub returns-clause-recorded : goal.returns-clause-recorded
+returns-clause-recorded g c =
     let s = c.args.self.now in
-    let p = plan_of g.B.Binder s.binder in
-    let climbs = g.met.B.Binder.climbs s.binder in
-    let repeats = g.met.B.Binder.repeats s.binder in
     let n = s.table.count in
     let count_is : length (jobs_of s) ≡ n = length-take-le n s.table.jobs (omega (arith, s.table.few, s.table.slots)) in
     let accepted = ap (λ (m : ℕ). Ok m) (sym count_is) ∙ ap (λ o. unless o (length (jobs_of s))) (sym (unless_ok _ tt _ c.in_ok-judge_arrive.ensures).0) in
-    record {
-      step = record { answers = accepted; table = c.add.ensures; clock_stands = refl };
-      same_binder = record { binder_kept = refl; verdict_kept = refl };
-      refused_changes_nothing = λ e q. let z : ◌≡◌ {A = ℕ} 0 1 = cc in absurd (omega arith);
-      recorded = λ h r. arrive_recorded p climbs repeats s.verdict s.clock (jobs_of s) h r c.args.component c.args.deadline (Ok n) (records c.add.new.self) accepted c.add.ensures;
-      certified = λ h r. certified p climbs repeats h r.follows;
-    }
+    λ h r.
+    arrive_recorded (plan_of g.B.Binder s.binder) (g.met.B.Binder.climbs s.binder) (g.met.B.Binder.repeats s.binder) s.verdict s.clock (jobs_of s) h r c.args.component c.args.deadline (Ok n)
+    (records c.add.new.self) accepted c.add.ensures
+
+pub returns-clause-certified : goal.returns-clause-certified
+returns-clause-certified g c =
+    let s = c.args.self.now in
+    λ h r. certified (plan_of g.B.Binder s.binder) (g.met.B.Binder.climbs s.binder) (g.met.B.Binder.repeats s.binder) h r.follows

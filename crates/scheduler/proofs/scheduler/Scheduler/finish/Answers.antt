@@ -1,14 +1,11 @@
-use Rattle.std.proofs.Common.{◌≡◌, ℕ, length, is_ok, Ok, sym, refl, ap, ◌∙◌, subst, arith}
-use Rattle.std.proofs.lemmas.Bool.{cond-true}
+use Rattle.std.proofs.Common.{length, is_ok, sym, subst}
 use Rattle.scheduler.specs.declared.job.Ending.TheVariants as ending
-use Rattle.scheduler.specs.Steps.{unless, records}
 use Rattle.scheduler.specs.Table.{at, is_open, Numbered, Dated, Slow, Ascending}
-use Rattle.scheduler.specs.Recording.{finish_leaves}
 use Rattle.scheduler.specs.Records.{jobs_of}
 use Rattle.scheduler.specs.Rules.{plan_of}
 use Rattle.scheduler.proofs.Certificate.{finish_accepted, certified}
 use Rattle.scheduler.proofs.Keeping.{ended_length, ended_each, numbered_same, dated_same, slow_same, ascending_same}
-use Rattle.scheduler.proofs.Stepping.{unless_ok, finish_recorded}
+use Rattle.scheduler.proofs.Stepping.{unless_ok}
 use Rattle.scheduler.proofs.scheduler.Scheduler.finish.Goals as goal
 
 pub returns-in_err-judge_finish-clause-certified : goal.returns-in_err-judge_finish-clause-certified
@@ -32,22 +29,7 @@ invariant_of-self g c =
       ascending = subst Ascending (sym c.end.ensures.after) (ascending_same now js _ (ended_length js n _) each s.ascending);
     }
 
-pub returns : goal.returns
-returns g c =
+pub returns-clause-certified : goal.returns-clause-certified
+returns-clause-certified g c =
     let s = c.args.self.now in
-    let js = jobs_of s in
-    let n = c.args.job in
-    let p = plan_of g.B.Binder s.binder in
-    let climbs = g.met.B.Binder.climbs s.binder in
-    let repeats = g.met.B.Binder.repeats s.binder in
-    let w = finish_accepted (is_ok s.verdict) (length js) n (is_open (at js n).status) (unless_ok _ tt _ c.in_ok-judge_finish.ensures).0 in
-    let answer : c.end.result ≡ Ok (at js n).used = c.end.ensures.answer ∙ cond-true (is_open (at js n).status) _ _ w.2 in
-    let accepted = answer ∙ ap (λ o. unless o (at js n).used) (sym (unless_ok _ tt _ c.in_ok-judge_finish.ensures).0) in
-    let left = c.end.ensures.after ∙ ap (finish_leaves js n) (sym answer) in
-    record {
-      step = record { answers = accepted; table = left; clock_stands = refl };
-      same_binder = record { binder_kept = refl; verdict_kept = refl };
-      refused_changes_nothing = λ e q. let a = answer in let z : ◌≡◌ {A = ℕ} 0 1 = cc in absurd (omega arith);
-      recorded = λ h r. finish_recorded p climbs repeats s.verdict s.clock js h r n c.end.result (records c.end.new.self) accepted left;
-      certified = λ h r. certified p climbs repeats h r.follows;
-    }
+    λ h r. certified (plan_of g.B.Binder s.binder) (g.met.B.Binder.climbs s.binder) (g.met.B.Binder.repeats s.binder) h r.follows

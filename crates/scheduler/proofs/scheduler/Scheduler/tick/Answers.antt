@@ -1,4 +1,4 @@
-use Rattle.std.proofs.Common.{◌≡◌, ℕ, ◌+◌, ◌-◌, ◌^◌, ◌<◌, List, length, is_ok, Some, Ok, Option, sym, refl, ap, ◌∙◌, subst, arith}
+use Rattle.std.proofs.Common.{◌≡◌, ℕ, ◌+◌, ◌-◌, ◌^◌, ◌<◌, List, length, is_ok, Some, Ok, Option, sym, ap, ◌∙◌, subst, arith}
 use Rattle.scheduler.specs.declared.job.Job.{Job as Entry}
 use Rattle.scheduler.specs.declared.calls.Ticked.{Ticked}
 use Rattle.scheduler.specs.History.{Counts}
@@ -98,8 +98,8 @@ invariant_of-self g c =
       ascending = subst Ascending (sym after) (ascending_ran now (cut_due now js) d w u o known);
     }
 
-pub returns : goal.returns
-returns g c =
+pub returns-clause-recorded : goal.returns-clause-recorded
+returns-clause-recorded g c =
     let s = c.args.self.now in
     let now = s.clock in
     let js = jobs_of s in
@@ -118,11 +118,15 @@ returns g c =
       one_unit_more = c.run.ensures ∙ ap (with_unit o) c.cut_due-cut.ensures.after;
     } in
     let accepted = (unless_ok _ tt _ c.in_ok-judge_tick.ensures).0 in
-    record {
-      step = record { answers = (accepted, ticks); clock_rises = refl };
-      same_binder = record { binder_kept = refl; verdict_kept = refl };
-      refused_changes_nothing = λ e q. let z : ◌≡◌ {A = ℕ} 0 1 = cc in absurd (omega arith);
-      recorded = λ h r. tick_recorded p climbs repeats s.verdict now js h r (Ok answered) (records c.run.new.self) (accepted, ticks);
-      certified = λ h r. certified p climbs repeats h r.follows;
-      needs_met = λ h r. needs_met p.bound h (certified p climbs repeats h r.follows);
-    }
+    λ h r. tick_recorded p climbs repeats s.verdict now js h r (Ok answered) (records c.run.new.self) (accepted, ticks)
+
+pub returns-clause-certified : goal.returns-clause-certified
+returns-clause-certified g c =
+    let s = c.args.self.now in
+    λ h r. certified (plan_of g.B.Binder s.binder) (g.met.B.Binder.climbs s.binder) (g.met.B.Binder.repeats s.binder) h r.follows
+
+pub returns-clause-needs_met : goal.returns-clause-needs_met
+returns-clause-needs_met g c =
+    let s = c.args.self.now in
+    let p = plan_of g.B.Binder s.binder in
+    λ h r. needs_met p.bound h (certified p (g.met.B.Binder.climbs s.binder) (g.met.B.Binder.repeats s.binder) h r.follows)
