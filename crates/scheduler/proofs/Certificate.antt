@@ -23,7 +23,7 @@ use Rattle.scheduler.proofs.Weak.{Picks, May, MayAll}
 use Rattle.scheduler.proofs.Soundness.{Sound, sound}
 
 -- a refusal that does not apply
-pub passes : (b : Bool) (why : CallRefusal) (o : Option CallRefusal) → cond b (Some why) o ≡ None → (b ≡ false) × (o ≡ None)
+passes : (b : Bool) (why : CallRefusal) (o : Option CallRefusal) → cond b (Some why) o ≡ None → (b ≡ false) × (o ≡ None)
 passes true why o e = let z : ◌≡◌ {A = ℕ} 0 1 = cc in absurd (omega arith)
 passes false why o e = (refl, e)
 
@@ -74,7 +74,7 @@ weaker p (Finished n u) h a =
 weaker p (Ticked x) h a = first_picked p h x.ran a.1
 weaker p (Refused c why) h a = tt
 
-pub all_weaker_rules : (p : Plan) (h : History) → Follows p h → MayAll p.parts p.bound h
+all_weaker_rules : (p : Plan) (h : History) → Follows p h → MayAll p.parts p.bound h
 all_weaker_rules p [] f = tt
 all_weaker_rules p (e ∷ h) f = (weaker p e h f.0, all_weaker_rules p h f.1)
 

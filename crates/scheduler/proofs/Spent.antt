@@ -7,17 +7,14 @@ use Rattle.scheduler.specs.Table.{at, empty_entry, arrival_in, Ascending}
 use Rattle.scheduler.specs.Policing.{due_by, used_below, SpentFrom, EarliestOf}
 
 -- of the numbers from i on
-abbrev pub From : (ℕ → Type 0) → ℕ → ℕ → Type 0
+abbrev From : (ℕ → Type 0) → ℕ → ℕ → Type 0
 From P i m = (i ≤ m) × P m
 
 module _ (P : ℕ → Type 0) (tick : ℕ → ℕ) where
-  pub earliest_none : (n : ℕ) → ((m : ℕ) → P m → m < n) → EarliestOf (From P n) tick None
-  earliest_none n below m q = omega (arith, q.0, below m q.1)
-
-  pub earliest_found : (i : ℕ) → P i → ((m : ℕ) → i ≤ m → P m → tick i ≤ tick m) → EarliestOf (From P i) tick (Some (tick i))
+  earliest_found : (i : ℕ) → P i → ((m : ℕ) → i ≤ m → P m → tick i ≤ tick m) → EarliestOf (From P i) tick (Some (tick i))
   earliest_found i p first = ((i, (omega arith, p), refl), λ m q. first m q.0 q.1)
 
-  pub earliest_kept : (i : ℕ) → (P i → ⊥) → (o : Option ℕ) → EarliestOf (From P (i + 1)) tick o → EarliestOf (From P i) tick o
+  earliest_kept : (i : ℕ) → (P i → ⊥) → (o : Option ℕ) → EarliestOf (From P (i + 1)) tick o → EarliestOf (From P i) tick o
   earliest_kept i never = kept
     where
       later : (m : ℕ) → From P i m → From P (i + 1) m
@@ -27,19 +24,15 @@ module _ (P : ℕ → Type 0) (tick : ℕ → ℕ) where
       kept None none = λ m q. none m (later m q)
       kept (Some t) found = ((found.0.0, (omega (arith, found.0.1.0), found.0.1.1), found.0.2), λ m q. found.1 m (later m q))
 
-  pub earliest_all : (o : Option ℕ) → EarliestOf (From P 0) tick o → EarliestOf P tick o
-  earliest_all None none = λ m p. none m (omega arith, p)
-  earliest_all (Some t) found = ((found.0.0, found.0.1.1, found.0.2), λ m p. found.1 m (omega arith, p))
-
 module _ (js : List Entry) (k e : ℕ) where
   pub used_more : (n : ℕ) → used_below js k e (suc n) ≡ used_below js k e n + cond (due_by k e (at js n)) (at js n).used 0
   unfolding used_below
   used_more n = refl
 
-  pub used_counted : (i : ℕ) → due_by k e (at js i) ≡ true → used_below js k e (i + 1) ≡ used_below js k e i + (at js i).used
+  used_counted : (i : ℕ) → due_by k e (at js i) ≡ true → used_below js k e (i + 1) ≡ used_below js k e i + (at js i).used
   used_counted i t = ap (used_below js k e) (add-one i) ∙ used_more i ∙ ap (λ u. used_below js k e i + u) (cond-true _ (at js i).used 0 t)
 
-  pub used_passed : (i : ℕ) → due_by k e (at js i) ≡ false → used_below js k e (i + 1) ≡ used_below js k e i
+  used_passed : (i : ℕ) → due_by k e (at js i) ≡ false → used_below js k e (i + 1) ≡ used_below js k e i
   used_passed i t = ap (used_below js k e) (add-one i) ∙ used_more i ∙ ap (λ u. used_below js k e i + u) (cond-false _ (at js i).used 0 t) ∙ add-zero _
 
 -- The search for the first spent start, when it has gone back to the job n: the units of the jobs from there on, and the first start

@@ -1,11 +1,14 @@
-use Rattle.std.proofs.Common.{length, is_ok, sym, subst}
+use Rattle.std.proofs.Common.{◌≡◌, length, is_ok, Ok, sym, ap, ◌∙◌, subst}
+use Rattle.std.proofs.lemmas.Bool.{cond-true}
 use Rattle.scheduler.specs.declared.job.Ending.TheVariants as ending
+use Rattle.scheduler.specs.Recording.{finish_leaves}
+use Rattle.scheduler.specs.Steps.{unless, records}
 use Rattle.scheduler.specs.Table.{at, is_open, Numbered, Dated, Slow, Ascending}
 use Rattle.scheduler.specs.Records.{jobs_of}
 use Rattle.scheduler.specs.Rules.{plan_of}
 use Rattle.scheduler.proofs.Certificate.{finish_accepted, certified}
 use Rattle.scheduler.proofs.Keeping.{ended_length, ended_each, numbered_same, dated_same, slow_same, ascending_same}
-use Rattle.scheduler.proofs.Stepping.{unless_ok}
+use Rattle.scheduler.proofs.Stepping.{unless_ok, finish_recorded}
 use Rattle.scheduler.proofs.scheduler.Scheduler.finish.Goals as goal
 
 pub returns-in_err-judge_finish-clause-certified : goal.returns-in_err-judge_finish-clause-certified
@@ -28,6 +31,19 @@ invariant_of-self g c =
       slow = subst (Slow now) (sym c.end.ensures.after) (slow_same now js _ (ended_length js n _) each s.slow);
       ascending = subst Ascending (sym c.end.ensures.after) (ascending_same now js _ (ended_length js n _) each s.ascending);
     }
+
+pub returns-clause-recorded : goal.returns-clause-recorded
+returns-clause-recorded g c =
+    let s = c.args.self.now in
+    let js = jobs_of s in
+    let n = c.args.job in
+    let ok = (unless_ok _ tt _ c.in_ok-judge_finish.ensures).0 in
+    let w = finish_accepted (is_ok s.verdict) (length js) n (is_open (at js n).status) ok in
+    let answer : c.end.result ≡ Ok (at js n).used = c.end.ensures.answer ∙ cond-true (is_open (at js n).status) _ _ w.2 in
+    let accepted = answer ∙ ap (λ o. unless o (at js n).used) (sym ok) in
+    let left = c.end.ensures.after ∙ ap (finish_leaves js n) (sym answer) in
+    λ h r.
+    finish_recorded (plan_of g.B.Binder s.binder) (g.met.B.Binder.climbs s.binder) (g.met.B.Binder.repeats s.binder) s.verdict s.clock js h r n c.end.result (records c.end.new.self) accepted left
 
 pub returns-clause-certified : goal.returns-clause-certified
 returns-clause-certified g c =
