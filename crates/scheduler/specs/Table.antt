@@ -70,6 +70,13 @@ Slow now js = (n : ℕ) → n < length js → ((at js n).used + (at js n).arriva
 abbrev pub Ascending : List Entry → Type 0
 Ascending js = (m n : ℕ) → m ≤ n → n < length js → (at js m).arrival ≤ (at js n).arrival
 
+-- all of it
+pub record TableKeeps (now : ℕ) (js : List Entry) : Type 0 where
+  pub numbered : Numbered js
+  pub dated : Dated now js
+  pub slow : Slow now js
+  pub ascending : Ascending js
+
 -- what this says of the record of job n
 pub record InRange (now n : ℕ) (j : Entry) : Type 0 where
   pub numbered : j.number ≡ n

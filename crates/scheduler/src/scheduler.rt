@@ -1,6 +1,6 @@
 ghost use Rattle.std.specs.Prelude.{◌≤◌};
 ghost use Rattle.scheduler.specs.Steps.{records};
-ghost use Rattle.scheduler.specs.Table.{Numbered, Dated, Slow, Ascending};
+ghost use Rattle.scheduler.specs.Table.{TableKeeps};
 
 mod asking;
 mod calling;
@@ -17,8 +17,5 @@ pub struct Scheduler<B> {
     pub(crate) clock: u32,
     pub(crate) table: JobTable,
     ghost early: { clock ≤ 1000000 },
-    ghost numbered: { Numbered (records table) },
-    ghost dated: { Dated clock (records table) },
-    ghost slow: { Slow clock (records table) },
-    ghost ascending: { Ascending (records table) },
+    ghost kept: { TableKeeps clock (records table) },
 }

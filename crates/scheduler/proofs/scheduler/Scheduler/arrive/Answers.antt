@@ -1,10 +1,10 @@
 use Rattle.std.proofs.Common.{◌≡◌, ℕ, length, is_ok, Ok, sym, ap, ◌∙◌, subst, arith, length-take-le}
 use Rattle.scheduler.specs.Steps.{unless, records}
-use Rattle.scheduler.specs.Table.{Numbered, Dated, Slow, Ascending}
+use Rattle.scheduler.specs.Table.{TableKeeps}
 use Rattle.scheduler.specs.Records.{jobs_of}
 use Rattle.scheduler.specs.Rules.{plan_of}
 use Rattle.scheduler.proofs.Certificate.{arrive_accepted, certified}
-use Rattle.scheduler.proofs.Keeping.{numbered_push, dated_push, slow_push, ascending_push}
+use Rattle.scheduler.proofs.Keeping.{kept_push}
 use Rattle.scheduler.proofs.Stepping.{unless_ok, arrive_recorded}
 use Rattle.scheduler.proofs.scheduler.Scheduler.arrive.Goals as goal
 
@@ -23,10 +23,7 @@ invariant_of-self g c =
     let w = arrive_accepted (is_ok s.verdict) (g.B.Binder.count s.binder) now (length (jobs_of s)) k d (unless_ok _ tt _ c.in_ok-judge_arrive.ensures).0 in
     record {
       early = s.early;
-      numbered = subst Numbered (sym c.add.ensures) (numbered_push now (jobs_of s) n k d w.2 w.3 (sym (length-take-le n s.table.jobs (omega (arith, s.table.few, s.table.slots)))) s.numbered);
-      dated = subst (Dated now) (sym c.add.ensures) (dated_push now (jobs_of s) n k d w.2 w.3 s.dated);
-      slow = subst (Slow now) (sym c.add.ensures) (slow_push now (jobs_of s) n k d w.2 w.3 s.slow);
-      ascending = subst Ascending (sym c.add.ensures) (ascending_push now (jobs_of s) n k d w.2 w.3 s.dated s.ascending);
+      kept = subst (TableKeeps now) (sym c.add.ensures) (kept_push now (jobs_of s) n k d w.2 w.3 (sym (length-take-le n s.table.jobs (omega (arith, s.table.few, s.table.slots)))) s.kept);
     }
 
 pub returns-clause-recorded : goal.returns-clause-recorded

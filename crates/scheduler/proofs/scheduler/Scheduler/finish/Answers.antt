@@ -3,11 +3,11 @@ use Rattle.std.proofs.lemmas.Bool.{cond-true}
 use Rattle.scheduler.specs.declared.job.Ending.TheVariants as ending
 use Rattle.scheduler.specs.Recording.{finish_leaves}
 use Rattle.scheduler.specs.Steps.{unless, records}
-use Rattle.scheduler.specs.Table.{at, is_open, Numbered, Dated, Slow, Ascending}
+use Rattle.scheduler.specs.Table.{at, is_open, TableKeeps}
 use Rattle.scheduler.specs.Records.{jobs_of}
 use Rattle.scheduler.specs.Rules.{plan_of}
 use Rattle.scheduler.proofs.Certificate.{finish_accepted, certified}
-use Rattle.scheduler.proofs.Keeping.{ended_length, ended_each, numbered_same, dated_same, slow_same, ascending_same}
+use Rattle.scheduler.proofs.Keeping.{ended_length, ended_each, kept_same}
 use Rattle.scheduler.proofs.Stepping.{unless_ok, finish_recorded}
 use Rattle.scheduler.proofs.scheduler.Scheduler.finish.Goals as goal
 
@@ -23,13 +23,9 @@ invariant_of-self g c =
     let js = jobs_of s in
     let n = c.args.job in
     let w = finish_accepted (is_ok s.verdict) (length js) n (is_open (at js n).status) (unless_ok _ tt _ c.in_ok-judge_finish.ensures).0 in
-    let each = ended_each ending.Finish js n w.1 in
     record {
       early = s.early;
-      numbered = subst Numbered (sym c.end.ensures.after) (numbered_same now js _ (ended_length js n _) each s.numbered);
-      dated = subst (Dated now) (sym c.end.ensures.after) (dated_same now js _ (ended_length js n _) each s.dated);
-      slow = subst (Slow now) (sym c.end.ensures.after) (slow_same now js _ (ended_length js n _) each s.slow);
-      ascending = subst Ascending (sym c.end.ensures.after) (ascending_same now js _ (ended_length js n _) each s.ascending);
+      kept = subst (TableKeeps now) (sym c.end.ensures.after) (kept_same now js _ (ended_length js n _) (ended_each ending.Finish js n w.1) s.kept);
     }
 
 pub returns-clause-recorded : goal.returns-clause-recorded
