@@ -24,7 +24,7 @@ use Rattle.scheduler.proofs.Soundness.{Sound, sound}
 
 -- a refusal that does not apply
 passes : (b : Bool) (why : CallRefusal) (o : Option CallRefusal) → cond b (Some why) o ≡ None → (b ≡ false) × (o ≡ None)
-passes true why o e = let z : ◌≡◌ {A = ℕ} 0 1 = cc in absurd (omega arith)
+passes true why o e = cc
 passes false why o e = (refl, e)
 
 pub is_pending_so : (f : Fate) → is_pending f ≡ true → f ≡ pending
@@ -144,7 +144,7 @@ runs_once p h (Some n) (Some m) a b =
     (a.1 m b.0)
 
 none_some : (o : Option CallRefusal) (w : CallRefusal) → o ≡ None → o ≡ Some w → ⊥
-none_some o w a b = let z : ◌≡◌ {A = ℕ} 0 1 = cc in omega arith
+none_some o w a b = cc
 
 same_why : (o : Option CallRefusal) (v w : CallRefusal) → o ≡ Some v → o ≡ Some w → v ≡ w
 same_why o v w a b = cc
@@ -155,18 +155,18 @@ accepted p h e c why s a b = none_some (refusal_of p h c) why (ap (refusal_of p 
 
 pub answers_once : (p : Plan) (h : History) (e f : Event) → call_of e ≡ call_of f → Answers p e h → Answers p f h → e ≡ f
 answers_once p h (Arrived k d n) (Arrived k' d' n') s a b = let x = a.1 in let y = b.1 in cc
-answers_once p h (Arrived k d n) (Finished m u) s a b = let z : ◌≡◌ {A = ℕ} 0 1 = cc in absurd (omega arith)
-answers_once p h (Arrived k d n) (Ticked x) s a b = let z : ◌≡◌ {A = ℕ} 0 1 = cc in absurd (omega arith)
+answers_once p h (Arrived k d n) (Finished m u) s a b = cc
+answers_once p h (Arrived k d n) (Ticked x) s a b = cc
 answers_once p h (Arrived k d n) (Refused c why) s a b = absurd (accepted p h (Arrived k d n) c why s a.0 b)
-answers_once p h (Finished m u) (Arrived k d n) s a b = let z : ◌≡◌ {A = ℕ} 0 1 = cc in absurd (omega arith)
+answers_once p h (Finished m u) (Arrived k d n) s a b = cc
 answers_once p h (Finished m u) (Finished m' u') s a b =
     let same : m ≡ m' = cc in
     let used : u ≡ u' = a.1 ∙ ap (units h) same ∙ sym b.1 in
     cc
-answers_once p h (Finished m u) (Ticked x) s a b = let z : ◌≡◌ {A = ℕ} 0 1 = cc in absurd (omega arith)
+answers_once p h (Finished m u) (Ticked x) s a b = cc
 answers_once p h (Finished m u) (Refused c why) s a b = absurd (accepted p h (Finished m u) c why s a.0 b)
-answers_once p h (Ticked x) (Arrived k d n) s a b = let z : ◌≡◌ {A = ℕ} 0 1 = cc in absurd (omega arith)
-answers_once p h (Ticked x) (Finished m u) s a b = let z : ◌≡◌ {A = ℕ} 0 1 = cc in absurd (omega arith)
+answers_once p h (Ticked x) (Arrived k d n) s a b = cc
+answers_once p h (Ticked x) (Finished m u) s a b = cc
 answers_once p h (Ticked x) (Ticked y) s a b =
     let ran = runs_once p h x.ran y.ran a.1 b.1 in
     let held = counts_once (Held p.bound h) (count h) x.held y.held a.2 b.2 in
@@ -184,8 +184,8 @@ answers_once p h (Refused c why) (Refused c' why') s a b =
 -- so histories of the same calls that follow the rules are the same
 same_history : (p : Plan) (h i : History) → map call_of h ≡ map call_of i → Follows p h → Follows p i → h ≡ i
 same_history p [] [] s f g = refl
-same_history p [] (e ∷ i) s f g = let z : ◌≡◌ {A = ℕ} 0 1 = cc in absurd (omega arith)
-same_history p (e ∷ h) [] s f g = let z : ◌≡◌ {A = ℕ} 0 1 = cc in absurd (omega arith)
+same_history p [] (e ∷ i) s f g = cc
+same_history p (e ∷ h) [] s f g = cc
 same_history p (e ∷ h) (e' ∷ i) s f g =
     let rest : map call_of h ≡ map call_of i = cc in
     let call : call_of e ≡ call_of e' = cc in

@@ -111,18 +111,18 @@ module _ (h : History) (x : TickAnswered) where
 
 -- a fate after an event
 pub pending_cut : (f : Fate) → f ≡ pending → f ≡ cut → ⊥
-pending_cut f p q = let z : ◌≡◌ {A = ℕ} 0 1 = cc in omega arith
+pending_cut f p q = cc
 
 pub done_pending : done ≡ pending → ⊥
-done_pending e = let z : ◌≡◌ {A = ℕ} 0 1 = cc in omega arith
+done_pending e = cc
 
 pub cut_pending : cut ≡ pending → ⊥
-cut_pending e = let z : ◌≡◌ {A = ℕ} 0 1 = cc in omega arith
+cut_pending e = cc
 
 pub still_pending : (b : Bool) (f g : Fate) → (g ≡ pending → ⊥) → cond b (ends f g) f ≡ pending → (b ≡ false) × (f ≡ pending)
 still_pending true pending g ne e = absurd (ne e)
-still_pending true done g ne e = let z : ◌≡◌ {A = ℕ} 0 1 = cc in absurd (omega arith)
-still_pending true cut g ne e = let z : ◌≡◌ {A = ℕ} 0 1 = cc in absurd (omega arith)
+still_pending true done g ne e = cc
+still_pending true cut g ne e = cc
 still_pending false f g ne e = (refl, e)
 
 pub cut_now : (b : Bool) (f : Fate) → cond b (ends f cut) f ≡ cut → (f ≡ cut) ⊎ ((b ≡ true) × (f ≡ pending))
@@ -132,7 +132,7 @@ cut_now true cut e = inl e
 cut_now false f e = inl e
 
 pub cut_before : (b : Bool) (f : Fate) → cond b (ends f done) f ≡ cut → f ≡ cut
-cut_before true pending e = let z : ◌≡◌ {A = ℕ} 0 1 = cc in absurd (omega arith)
+cut_before true pending e = cc
 cut_before true done e = e
 cut_before true cut e = e
 cut_before false f e = e

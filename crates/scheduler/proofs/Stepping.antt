@@ -18,10 +18,10 @@ use Rattle.scheduler.proofs.Ticking.{ticked_recorded}
 
 pub unless_ok : {X : Type 0} (o : Option CallRefusal) (x y : X) → Ok y ≡ unless o x → (o ≡ None) × (y ≡ x)
 unless_ok None x y e = let same : y ≡ x = cc in (refl, same)
-unless_ok (Some w) x y e = let z : ◌≡◌ {A = ℕ} 0 1 = cc in absurd (omega arith)
+unless_ok (Some w) x y e = cc
 
 unless_err : {X : Type 0} (o : Option CallRefusal) (x : X) (w : CallRefusal) → Err w ≡ unless o x → o ≡ Some w
-unless_err None x w e = let z : ◌≡◌ {A = ℕ} 0 1 = cc in absurd (omega arith)
+unless_err None x w e = cc
 unless_err (Some v) x w e = let same : v ≡ w = cc in ap (λ u. Some u) same
 
 module _ (p : Plan) (climbs : (k l m : ℕ) → l ≤ m → p.bound k l ≤ p.bound k m) (repeats : (k l : ℕ) → 4096 ≤ l → p.bound k (l + 4096) ≡ p.bound k l + p.gain k)
