@@ -2,7 +2,7 @@
 use Rattle.std.proofs.Common.{◌≡◌, ℕ, zero, suc, ◌+◌, ◌<◌, ◌≤◌, Bool, true, false, cond, not, eqb, leb, ◌⊎◌, List, [], ◌∷◌, ◌++◌, map, reverse, is_ok, Some, None, Ok, Err, Option, Result, sym, refl, ap, ◌∙◌, subst, inl, inr, ⊎_elim, arith}
 use mathlib.Core.List.{reverse-cons}
 use Rattle.std.proofs.lemmas.List.{map_push, reverse-reverse}
-use Rattle.std.proofs.lemmas.Bool.{cases_Bool, eqb-false, leb-false, not-false, true≢false}
+use Rattle.std.proofs.lemmas.Bool.{cases_Bool, eqb-false, leb-false, not-false}
 use Rattle.demand.specs.declared.verdict.TestRefusal.{TestRefusal}
 use Rattle.demand.specs.Fields.{from_to}
 use Rattle.demand.proofs.Admitted.{admitted_fits}
@@ -29,8 +29,8 @@ passes false why o e = (refl, e)
 
 pub is_pending_so : (f : Fate) → is_pending f ≡ true → f ≡ pending
 is_pending_so pending e = refl
-is_pending_so done e = absurd (true≢false (sym e))
-is_pending_so cut e = absurd (true≢false (sym e))
+is_pending_so done e = cc
+is_pending_so cut e = cc
 
 -- an arrive that is not refused
 pub arrive_accepted : (ok : Bool) (parts now jobs k d : ℕ) → arrive_reason ok parts now jobs k d ≡ None → (ok ≡ true) × (k < parts) × (1 ≤ d) × (d ≤ 4096)
@@ -79,7 +79,7 @@ all_weaker_rules p [] f = tt
 all_weaker_rules p (e ∷ h) f = (weaker p e h f.0, all_weaker_rules p h f.1)
 
 not_none : {b : Bool} → b ≡ false → not b ≡ false → ⊥
-not_none e n = true≢false (sym (ap not e) ∙ n)
+not_none e n = cc
 
 no_load : (n : ℕ) (j : ℕ → Job) (u : ℕ → ℕ) → n ≡ 0 → (k s e : ℕ) → load_over n j u k s e ≡ 0
 unfolding load_over
@@ -87,7 +87,7 @@ no_load n j u z k s e = ap (λ m. load_over m j u k s e) z
 
 ok_unit : (r : Result (Unit {0}) TestRefusal) → is_ok r ≡ true → r ≡ Ok tt
 ok_unit (Ok tt) e = refl
-ok_unit (Err x) e = absurd (true≢false (sym e))
+ok_unit (Err x) e = cc
 
 -- a plan whose bounds never fall and repeat
 module _ (p : Plan) (climbs : (k l m : ℕ) → l ≤ m → p.bound k l ≤ p.bound k m) (repeats : (k l : ℕ) → 4096 ≤ l → p.bound k (l + 4096) ≡ p.bound k l + p.gain k) where

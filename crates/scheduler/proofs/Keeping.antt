@@ -2,7 +2,7 @@
 use Rattle.std.proofs.Common.{◌≡◌, ℕ, ◌+◌, ◌<◌, ◌≤◌, Bool, true, false, cond, leb, List, [], ◌∷◌, ◌++◌, length, set, Some, None, Option, sym, refl, ap, ◌∙◌, subst, ⊎_elim, arith, length-set, get_or-set_other, get_or-set_same}
 use lib.ListN.{length-map}
 use Rattle.std.proofs.lemmas.List.{length_push, get_or_push, get_or_append_left, get_or-map}
-use Rattle.std.proofs.lemmas.Bool.{cases_lt, cases_eq, leb-false, false≢true}
+use Rattle.std.proofs.lemmas.Bool.{cases_lt, cases_eq, leb-false}
 use Rattle.scheduler.specs.declared.job.Ending.{Ending}
 use Rattle.scheduler.specs.declared.job.Ending.TheVariants as ending
 use Rattle.scheduler.specs.declared.job.Job.{Job as Entry}
@@ -121,8 +121,8 @@ cut_each now js i l = subst (SameJob (at js i)) (sym (get_or-map (cut_at now) js
 
 -- a job that is open after the cuts is due later
 stays_closed : (b : Bool) (j : Entry) → b ≡ is_open j.status → is_open (cond b (with_status j status.Cut) j).status ≡ true → ⊥
-stays_closed true j e q = false≢true q
-stays_closed false j e q = false≢true (e ∙ q)
+stays_closed true j e q = cc
+stays_closed false j e q = cc
 
 not_due : (b : Bool) (now : ℕ) (j : Entry) → b ≡ leb j.due now → is_open (cond b (ended ending.Due j) j).status ≡ true → now < (cond b (ended ending.Due j) j).due
 not_due true now j e q = absurd (stays_closed (is_open j.status) j refl q)

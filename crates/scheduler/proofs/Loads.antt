@@ -1,7 +1,7 @@
 -- What an event makes of the jobs, the loads and the fates.
 use Rattle.std.proofs.Common.{◌≡◌, ℕ, suc, ◌+◌, ◌<◌, ◌≤◌, Bool, true, false, cond, ◌&&◌, eqb, leb, ◌⊎◌, [], ◌∷◌, Some, None, sym, refl, ap, ◌∙◌, subst, inl, inr, ⊎_elim, arith}
 use Rattle.std.proofs.lemmas.List.{length_push, get_or_push, get_or_append_left}
-use Rattle.std.proofs.lemmas.Bool.{cases_lt, cases_eq, cases_Bool, cond-true, cond-false, true≢false, false≢true, and_parts, and_from, and_left, eqb-true, leb-true, le-leb, eq-eqb, ne_eqb}
+use Rattle.std.proofs.lemmas.Bool.{cases_lt, cases_eq, cases_Bool, cond-true, cond-false, and_parts, and_from, and_left, eqb-true, leb-true, le-leb, eq-eqb, ne_eqb}
 use Rattle.demand.specs.Admission.{total}
 use Rattle.scheduler.specs.History.{History, Job, no_job, Fate, clock, jobs, count, job, gives, units, ends, inside, load, load_over}
 use Rattle.scheduler.specs.declared.calls.Event.TheVariants.{Arrived, Ticked}
@@ -80,10 +80,10 @@ module _ (h : History) (x : TickAnswered) where
 
   plus_one : (b : Bool) (x y : ℕ) → b ≡ true → y ≡ 1 → cond b (x + y) 0 ≡ cond b x 0 + 1
   plus_one true x y b e = omega arith
-  plus_one false x y b e = absurd (false≢true b)
+  plus_one false x y b e = cc
 
   not_inside : (b : Bool) (x y : ℕ) → b ≡ false → cond b (x + y) 0 ≡ cond b x 0
-  not_inside true x y b = absurd (true≢false b)
+  not_inside true x y b = cc
   not_inside false x y b = refl
 
   pub load_idle : x.ran ≡ None → (k s e : ℕ) → load (Ticked x ∷ h) k s e ≡ load h k s e

@@ -1,7 +1,7 @@
 -- Each call keeps the scheduler in step with its history.
 use Rattle.std.proofs.Common.{◌≡◌, ℕ, ◌+◌, ◌<◌, ◌≤◌, Bool, true, cond, not, eqb, leb, List, [], ◌∷◌, ◌++◌, length, set, is_ok, Some, None, Option, Result, sym, refl, ap, ◌∙◌, subst, ⊎_elim, arith, length-set, get_or-set_other, get_or-set_same}
 use Rattle.std.proofs.lemmas.List.{length_push, get_or_push, get_or_append_left}
-use Rattle.std.proofs.lemmas.Bool.{cases_lt, cases_eq, cond-true, cond-false, eq-eqb, ne_eqb, le-leb, false≢true}
+use Rattle.std.proofs.lemmas.Bool.{cases_lt, cases_eq, cond-true, cond-false, eq-eqb, ne_eqb, le-leb}
 use Rattle.demand.specs.declared.verdict.TestRefusal.{TestRefusal}
 use Rattle.scheduler.specs.declared.calls.Call.{Call}
 use Rattle.scheduler.specs.declared.calls.Call.TheVariants.{Arrive, Finish, Tick}
@@ -29,8 +29,8 @@ open_pending cut = refl
 
 pub pending_so : (f : Fate) → is_open (status_of f) ≡ true → f ≡ pending
 pending_so pending e = refl
-pending_so done e = absurd (false≢true e)
-pending_so cut e = absurd (false≢true e)
+pending_so done e = cc
+pending_so cut e = cc
 
 finish_same : (ok b c : Bool) (n m : ℕ) → (n < m → b ≡ c) → finish_reason ok m n b ≡ finish_reason ok m n c
 finish_same ok b c n m same =

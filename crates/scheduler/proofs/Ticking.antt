@@ -2,7 +2,7 @@
 use Rattle.std.proofs.Common.{◌≡◌, ℕ, zero, suc, ◌+◌, ◌<◌, Bool, true, false, cond, ◌&&◌, eqb, ltb, leb, ◌⊎◌, List, ◌∷◌, length, Some, None, Option, Result, sym, refl, ap, ◌∙◌, subst, inl, inr, ⊎_elim, arith, get_or-set_other, get_or-set_same}
 use lib.ListN.{length-map}
 use Rattle.std.proofs.lemmas.List.{get_or-map}
-use Rattle.std.proofs.lemmas.Bool.{cases_eq, cond-true, cond-false, eq-eqb, ne_eqb, le-leb, leb-true, leb-false, lt-leb, lt-ltb, and_from, and_parts, false≢true}
+use Rattle.std.proofs.lemmas.Bool.{cases_eq, cond-true, cond-false, eq-eqb, ne_eqb, le-leb, leb-true, leb-false, lt-leb, lt-ltb, and_from, and_parts}
 use Rattle.demand.specs.declared.verdict.TestRefusal.{TestRefusal}
 use Rattle.scheduler.specs.declared.calls.Call.TheVariants.{Tick}
 use Rattle.scheduler.specs.declared.calls.Event.TheVariants.{Ticked}
@@ -44,7 +44,7 @@ first_same j i P Q to from same (Some n) found = (
 
 true_and : (b c : Bool) → b ≡ true → (b && c) ≡ c
 true_and true c e = refl
-true_and false c e = absurd (false≢true e)
+true_and false c e = cc
 
 -- how a job of a history stands after the cut
 cut_fate : (b : Bool) (h : History) (n : ℕ) (f : Fate) → cond b (cond (is_open (status_of f)) (with_status (with_fate h n f) status.Cut) (with_fate h n f)) (with_fate h n f) ≡ with_fate h n (cond b (ends f cut) f)
