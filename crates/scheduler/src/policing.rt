@@ -60,7 +60,7 @@ impl Roster<'_> {
         })
     }
 
-    // The spent windows that end where a job is due, by the number of that job.
+    // The spent windows that end where a job is due, by the number of that job. A tick takes no memory, so they are an array.
     pub(crate) fn spent_windows<B: Binder>(&self, binder: &B) -> [Option<Window>; MOST_JOBS]
         ensures { (b : ℕ) → b < length self.now.jobs.now → FirstSpent (B.Binder.bound binder.now) self.now.jobs.now (at self.now.jobs.now b) (slice_index_or result b None) }
     {
