@@ -2,13 +2,16 @@
 -- counted, and the first of the ready ones found.
 use Rattle.std.proofs.Common.{◌≡◌, ℕ, zero, suc, ◌+◌, ◌<◌, ◌≤◌, ◌⊎◌, Some, None, Option, sym, refl, ◌∙◌, subst, inl, inr, ⊎_elim, not-suc-le-zero, arith}
 use Rattle.std.proofs.lemmas.Bool.{cases_lt}
-use Rattle.scheduler.specs.History.{Call, Event, History, Job, Fate, clock, count, job, units, fate, Open, Cuts, Live, Counts, load}
-use Rattle.scheduler.specs.History.Call.{arrive, finish, tick}
-use Rattle.scheduler.specs.History.Event.{arrived, finished, ticked, refused}
+use Rattle.scheduler.specs.declared.calls.Call.{Call}
+use Rattle.scheduler.specs.declared.calls.CallRefusal.{CallRefusal}
+use Rattle.scheduler.specs.declared.calls.Event.{Event}
+use Rattle.scheduler.specs.History.{History, Job, Fate, clock, count, job, units, fate, Open, Cuts, Live, Counts, load}
+use Rattle.scheduler.specs.declared.calls.Call.TheVariants.{Arrive, Finish, Tick}
+use Rattle.scheduler.specs.declared.calls.Event.TheVariants.{Arrived, Finished, Ticked, Refused}
 use Rattle.scheduler.specs.History.Fate.{pending, done, cut}
 use Rattle.scheduler.specs.Windows.{Free, Ready, Held}
-use Rattle.scheduler.specs.Order.{Precedes}
-use Rattle.scheduler.specs.Rules.{Plan, RunsFirst, refusal_of, call_of, Answers}
+use Rattle.scheduler.specs.Order.{Precedes, FirstOf}
+use Rattle.scheduler.specs.Rules.{Plan, refusal_of, call_of, Answers}
 use Rattle.scheduler.proofs.Loads.{horizon, due_before, load_past, done_pending, cut_pending}
 use Rattle.scheduler.proofs.Windows.{free_or_full}
 
@@ -100,7 +103,7 @@ module _ (h : History) (P : ℕ → Type 0) (test : (n : ℕ) → Decided (P n))
       with_one (inr never) (inl w) = inl (w.0, (omega (arith, w.1.0), w.1.1, last_or (NotAfter w.0) w.1.2 (λ p. absurd (never p))))
       with_one (inr never) (inr none) = inr (last_or (λ m. ⊥) none never)
 
-none_or : (o : Option ℕ) → (o ≡ None) ⊎ ((why : ℕ) × (o ≡ Some why))
+none_or : (o : Option CallRefusal) → (o ≡ None) ⊎ ((why : CallRefusal) × (o ≡ Some why))
 none_or None = inl refl
 none_or (Some why) = inr (why, refl)
 
@@ -132,18 +135,18 @@ module _ (p : Plan) (climbs : (k l m : ℕ) → l ≤ m → p.bound k l ≤ p.bo
   held_decided : (n : ℕ) → Decided (Held p.bound h n)
   held_decided n = ⊎_elim (λ live. (ready_or_held n live).1) (λ never. inr (λ held. never held.0)) (live_decided n)
 
-  runs : (ran : Option ℕ) × RunsFirst p h ran
+  runs : (ran : Option ℕ) × FirstOf (job h) (Ready p.bound h) ran
   runs =
       ⊎_elim (λ w. (Some w.0, (w.1.1, λ m r. w.1.2 m r.0.0.0 r))) (λ none. (None, λ m r. none m r.0.0.0 r))
       (first_of h (Ready p.bound h) ready_decided (count h))
 
   answered : (c : Call) → refusal_of p h c ≡ None → (e : Event) × (call_of e ≡ c) × Answers p e h
-  answered (arrive k d) n = (arrived k d (count h), refl, (n, refl))
-  answered (finish m) n = (finished m (units h m), refl, (n, refl))
-  answered tick n =
+  answered (Arrive k d) n = (Arrived k d (count h), refl, (n, refl))
+  answered (Finish m) n = (Finished m (units h m), refl, (n, refl))
+  answered Tick n =
       let held = counted (Held p.bound h) held_decided (count h) in
       let cuts = counted (Cuts h) cuts_decided (count h) in
-      (ticked runs.0 held.0 cuts.0, refl, (n, runs.1, held.1, cuts.1))
+      (Ticked (record { ran = runs.0; held = held.0; cut = cuts.0 }), refl, (n, runs.1, held.1, cuts.1))
 
   pub an_answer : (c : Call) → (e : Event) × (call_of e ≡ c) × Answers p e h
-  an_answer c = ⊎_elim (answered c) (λ w. (refused c w.0, refl, w.1)) (none_or (refusal_of p h c))
+  an_answer c = ⊎_elim (answered c) (λ w. (Refused c w.0, refl, w.1)) (none_or (refusal_of p h c))

@@ -48,10 +48,6 @@ module _ (job_at : ℕ → Job) (P : ℕ → Type 0) where
   first_kept n never None none = λ m q. none m (earlier n m never q)
   first_kept n never (Some f) found = ((omega (arith, found.0.0), found.0.1), λ m q. found.1 m (earlier n m never q))
 
-  pub first_all : (n : ℕ) → ((m : ℕ) → P m → m < n) → (o : Option ℕ) → FirstOf job_at (Below P n) o → FirstOf job_at P o
-  first_all n below None none = λ m p. none m (below m p, p)
-  first_all n below (Some f) found = (found.0.1, λ m p. found.1 m (below m p, p))
-
 pub first_found : (js : List Entry) (P : ℕ → Type 0) (n : ℕ) → P n → (o : Option ℕ) → FirstOf (job_in js) (Below P n) o → FirstOf (job_in js) (Below P (n + 1)) (first_of_two js o n)
 first_found js P n here None none =
     ((omega arith, here), λ m q. ⊎_elim (λ (e : n ≡ m). inl e) (λ (ne : n ≡ m → ⊥). absurd (none m (omega (arith, q.0), q.1))) (cases_eq n m))

@@ -1,7 +1,7 @@
 -- Only windows from the arrival of a job to the due tick of a job of the same component matter.
 use Rattle.std.proofs.Common.{◌≡◌, ℕ, zero, suc, ◌-◌, ◌<◌, ◌≤◌, Bool, true, false, cond, ◌⊎◌, sym, refl, ap, ◌∙◌, inl, inr, ⊎_elim, arith}
 use Rattle.std.proofs.lemmas.Bool.{cases_Bool, cases_lt, both_ways}
-use Rattle.scheduler.specs.History.{History, count, job, units, inside, load}
+use Rattle.scheduler.specs.History.{History, count, job, units, inside, load, load_over}
 use Rattle.scheduler.specs.Windows.{Free, FreeAtJobs}
 use Rattle.scheduler.proofs.Loads.{inside_true, inside_from}
 use Rattle.scheduler.proofs.Sums.{sum_le}
@@ -51,7 +51,7 @@ share_more false c x h = omega arith
 
 -- room in the windows from job to job is room in every window
 pub free_at_jobs : (bound : ℕ → ℕ → ℕ) (h : History) (n : ℕ) → ((k l m : ℕ) → l ≤ m → bound k l ≤ bound k m) → n < count h → FreeAtJobs bound h n → Free bound (load h) (job h n)
-unfolding load
+unfolding load_over
 free_at_jobs bound h n climbs known free s e lies =
     let k = (job h n).component in
     let test : ℕ → Bool = λ i. inside k s e (job h i) in

@@ -1,11 +1,10 @@
 -- A job that is cut without its whole need would leave its spent window short of the bound.
 use Rattle.std.proofs.Common.{◌≡◌, ℕ, ◌+◌, ◌-◌, ◌<◌, ◌≤◌, true, false, cond, subst, ⊎_elim, arith}
 use Rattle.std.proofs.lemmas.Bool.{cases_lt, cases_Bool, cond-true, cond-false}
-use Rattle.scheduler.specs.History.{History, count, job, units, fate, inside, load}
+use Rattle.scheduler.specs.History.{History, count, job, units, fate, inside, load, load_over}
 use Rattle.scheduler.specs.History.Fate.{cut}
 use Rattle.scheduler.specs.Rules.{Certified}
 use Rattle.scheduler.specs.Needs.{KeepsToItsSheet, NeedsMet}
-use Rattle.scheduler.specs.Table.{load_over}
 use Rattle.scheduler.proofs.Loads.{inside_true, inside_from}
 use Rattle.scheduler.proofs.Sums.{sum_less}
 
@@ -21,12 +20,12 @@ module _ (bound : ℕ → ℕ → ℕ) (h : History) (laws : Certified bound h) 
 
   -- and fewer altogether where one of them has run less than it needs
   short_window : (s e n : ℕ) → n < count h → inside k s e (job h n) ≡ true → units h n < need n → load h k s e + 1 ≤ load_over (count h) (job h) need k s e
-  unfolding load load_over
+  unfolding load_over
   short_window s e n l t short =
       sum_less (count h) (λ i. cond (inside k s e (job h i)) (units h i) 0) (λ i. cond (inside k s e (job h i)) (need i) 0) n l
       (omega (arith, short, cond-true (inside k s e (job h n)) (units h n) 0 t, cond-true (inside k s e (job h n)) (need n) 0 t)) (share_within s e)
 
-  pub need_met : (n : ℕ) → n < count h → (job h n).component ≡ k → fate h n ≡ cut → units h n ≡ need n
+  need_met : (n : ℕ) → n < count h → (job h n).component ≡ k → fate h n ≡ cut → units h n ≡ need n
   need_met n l c e =
       ⊎_elim
       (λ (short : units h n < need n).

@@ -1,21 +1,22 @@
 -- The starts of spent windows decide which open jobs are held.
-use Rattle.std.proofs.Common.{◌≡◌, ℕ, zero, suc, ◌+◌, ◌-◌, ◌<◌, ◌≤◌, Bool, true, false, cond, eqb, leb, List, length, get_or, Some, None, Option, sym, refl, ap, subst, ⊎_elim, arith}
+use Rattle.std.proofs.Common.{◌≡◌, ℕ, zero, suc, ◌+◌, ◌-◌, ◌<◌, ◌≤◌, Bool, true, false, cond, eqb, leb, List, length, get_or, Some, None, Option, sym, refl, ap, ◌∙◌, subst, ⊎_elim, arith, take, length-take-le, get_or-take}
 use Rattle.std.proofs.lemmas.Bool.{cases_lt, and_parts, and_from, eqb-true, leb-true, eq-eqb, le-leb}
 use Rattle.demand.specs.Admission.{total}
 use Rattle.scheduler.specs.declared.job.Job.{Job as Entry}
-use Rattle.scheduler.specs.History.{inside, Lies}
-use Rattle.scheduler.specs.Table.{at, job_in, used_in, load_over, table_load, OpenIn, FreeIn, Ascending}
-use Rattle.scheduler.specs.Policing.{due_by, used_below, SpentFrom, LeastOf, Starts, Between}
+use Rattle.scheduler.specs.declared.window.Window.{Window}
+use Rattle.scheduler.specs.History.{inside, Lies, load_over}
+use Rattle.scheduler.specs.Table.{at, job_in, used_in, table_load, OpenIn, FreeIn, Ascending}
+use Rattle.scheduler.specs.Policing.{due_by, used_below, SpentFrom, OpenBy, FirstSpent, HeldBy}
 use Rattle.scheduler.proofs.Jobwise.{least, greatest, share_more}
 use Rattle.scheduler.proofs.Loads.{inside_true, inside_from}
 use Rattle.scheduler.proofs.Sums.{sum_le}
 use Rattle.scheduler.proofs.Spent.{used_more}
 
-pub due_by_true : (k e : ℕ) (j : Entry) → due_by k e j ≡ true → (j.component ≡ k) × (j.due ≤ e)
+due_by_true : (k e : ℕ) (j : Entry) → due_by k e j ≡ true → (j.component ≡ k) × (j.due ≤ e)
 due_by_true k e j t =
     let p = and_parts (eqb j.component k) (leb j.due e) t in (eqb-true j.component k p.0, leb-true j.due e p.1)
 
-pub due_by_from : (k e : ℕ) (j : Entry) → j.component ≡ k → j.due ≤ e → due_by k e j ≡ true
+due_by_from : (k e : ℕ) (j : Entry) → j.component ≡ k → j.due ≤ e → due_by k e j ≡ true
 due_by_from k e j c d = and_from (eqb j.component k) (leb j.due e) (eq-eqb j.component k c) (le-leb j.due e d)
 
 share_none : (b : Bool) (x : ℕ) → (b ≡ true → ⊥) → cond b x 0 ≡ 0
@@ -69,16 +70,24 @@ module _ (bound : ℕ → ℕ → ℕ) (climbs : (k l m : ℕ) → l ≤ m → b
       (tail_lies js k e (at js i).arrival i (λ j a b. ascending i j a b) (length js - i) (omega arith)) in
       omega (arith, tail, spent.2, load_is js k e (at js i).arrival)
 
-  pub not_free : (starts : List (Option ℕ)) → Starts bound js starts → (n : ℕ) → OpenIn js n → (b : ℕ) → Between js starts n b → FreeIn bound js n → ⊥
-  not_free starts right n o b between free =
-      let k = (at js b).component in
-      let e = (at js b).due in
-      let i = between.3.0 in
-      let least_one = right b between.0 (n, o, due_by_from k e (at js n) (sym between.1) between.2) in
-      let spent : SpentFrom bound js k e i = (subst (λ o. LeastOf (SpentFrom bound js k e) o) between.3.1 least_one).0 in
-      let room = free (at js i).arrival e (between.3.2, between.2) in
-      let full = subst (λ c. bound c (e - (at js i).arrival) ≤ table_load js c (at js i).arrival e) between.1 (spent_full k e i spent) in
-      omega (arith, room, full)
+  -- what the windows that end where each job is due are, by the number of that job
+  abbrev pub Windows : List (Option Window) → Type 0
+  Windows ws = (length ws ≡ length js) × ((b : ℕ) → b < length js → FirstSpent bound js (at js b) (get_or ws b None))
+
+  pub windows_taken : (ws : List (Option Window)) → length js ≤ length ws → ((b : ℕ) → b < length js → FirstSpent bound js (at js b) (get_or ws b None)) → Windows (take (length js) ws)
+  windows_taken ws fits found = (length-take-le (length js) ws fits, λ b l. subst (FirstSpent bound js (at js b)) (sym (get_or-take (length js) ws b None l)) (found b l))
+
+  pub not_free : (ws : List (Option Window)) → Windows ws → (n : ℕ) → HeldBy ws (at js n) → FreeIn bound js n → ⊥
+  not_free ws right n held free =
+      let w = held.1 in
+      let found = subst (FirstSpent bound js (at js held.0)) held.3 (right.1 held.0 (omega (arith, held.2, right.0))) in
+      let start = found.2.0 in
+      let lies = inside_true w.component w.start w.end (job_in js n) held.4 in
+      let room = free w.start w.end (lies.1, lies.2) in
+      let spent = subst (λ e. SpentFrom bound js (at js held.0).component e start.0) (sym found.1) start.1 in
+      let full = subst (λ s. bound (at js held.0).component (w.end - s) ≤ table_load js (at js held.0).component s w.end) start.2 (spent_full (at js held.0).component w.end start.0 spent) in
+      let same = subst (λ c. bound c (w.end - w.start) ≤ table_load js c w.start w.end) (sym (lies.0 ∙ found.0)) full in
+      omega (arith, room, same)
 
   module _ (n : ℕ) (known : n < length js) (s e : ℕ) (lies : Lies (job_in js n) s e) where
     k : ℕ
@@ -120,20 +129,20 @@ module _ (bound : ℕ → ℕ → ℕ) (climbs : (k l m : ℕ) → l ≤ m → b
           ascending i n (f.3 n known (inside_from c s e' (job_in js n) refl lies.0 due_n)) known,
         )
 
-  earlier_start : (k e i : ℕ) (o : Option ℕ) → LeastOf (SpentFrom bound js k e) o → SpentFrom bound js k e i → (f : ℕ) × (o ≡ Some f) × ((at js f).arrival ≤ (at js i).arrival)
-  earlier_start k e i None none spent = absurd (none i spent)
-  earlier_start k e i (Some f) found spent = (f, refl, ascending f i (found.1 i spent) spent.0)
+  earlier_start : (last : Entry) (o : Option Window) (i : ℕ) → FirstSpent bound js last o → OpenBy js last.component last.due → SpentFrom bound js last.component last.due i → (w : Window) × (o ≡ Some w) × (w.component ≡ last.component) × (w.end ≡ last.due) × (w.start ≤ (at js i).arrival)
+  earlier_start last None i none waits spent = absurd (none waits i spent)
+  earlier_start last (Some w) i found waits spent = (w, refl, found.0, found.1, found.2.1 i spent)
 
-  pub is_free : (starts : List (Option ℕ)) → Starts bound js starts → (n : ℕ) → OpenIn js n → (((b : ℕ) × Between js starts n b) → ⊥) → FreeIn bound js n
-  is_free starts right n o never s e lies =
+  pub is_free : (ws : List (Option Window)) → Windows ws → (n : ℕ) → OpenIn js n → (HeldBy ws (at js n) → ⊥) → FreeIn bound js n
+  is_free ws right n o never s e lies =
       let c = (at js n).component in
       ⊎_elim (λ (room : table_load js c s e < bound c (e - s)). omega arith)
       (λ (full : bound c (e - s) ≤ table_load js c s e).
       let w = spent_at n o.0 s e lies full in
-      let b = w.0 in
-      let i = w.1 in
-      let least_one = right b w.2 (n, o, due_by_from (at js b).component (at js b).due (at js n) (sym w.3) w.4) in
-      let spent : SpentFrom bound js (at js b).component (at js b).due i = subst (λ x. SpentFrom bound js x (at js b).due i) (sym w.3) w.5 in
-      let start = earlier_start (at js b).component (at js b).due i (get_or starts b None) least_one spent in
-      absurd (never (b, (w.2, w.3, w.4, (start.0, start.1, omega (arith, start.2, w.6))))))
+      let last = at js w.0 in
+      let waits : OpenBy js last.component last.due = (n, o, due_by_from last.component last.due (at js n) (sym w.3) w.4) in
+      let spent : SpentFrom bound js last.component last.due w.1 = subst (λ x. SpentFrom bound js x last.due w.1) (sym w.3) w.5 in
+      let found = earlier_start last (get_or ws w.0 None) w.1 (right.1 w.0 w.2) waits spent in
+      let v = found.0 in
+      absurd (never (w.0, v, omega (arith, w.2, right.0), found.1, inside_from v.component v.start v.end (job_in js n) (sym (found.2 ∙ w.3)) (omega (arith, found.4, w.6)) (omega (arith, found.3, w.4)))))
       (cases_lt (table_load js c s e) (bound c (e - s)))

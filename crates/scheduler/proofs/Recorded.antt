@@ -1,37 +1,26 @@
 -- Each call keeps the scheduler in step with its history.
-use Rattle.std.proofs.Common.{◌≡◌, ℕ, ◌+◌, ◌<◌, ◌≤◌, Bool, true, false, cond, not, eqb, leb, List, [], ◌∷◌, ◌++◌, length, set, is_ok, Some, None, Ok, Err, Option, Result, sym, refl, ap, ◌∙◌, subst, ⊎_elim, arith, length-set, get_or-set_other, get_or-set_same}
+use Rattle.std.proofs.Common.{◌≡◌, ℕ, ◌+◌, ◌<◌, ◌≤◌, Bool, true, cond, not, eqb, leb, List, [], ◌∷◌, ◌++◌, length, set, is_ok, Some, None, Option, Result, sym, refl, ap, ◌∙◌, subst, ⊎_elim, arith, length-set, get_or-set_other, get_or-set_same}
 use Rattle.std.proofs.lemmas.List.{length_push, get_or_push, get_or_append_left}
-use Rattle.std.proofs.lemmas.Bool.{cases_lt, cases_eq, cond-true, cond-false, eq-eqb, ne_eqb, le-leb, false≢true}
-use Rattle.demand.specs.Admission.{admission}
-use Rattle.demand.specs.Fields.{from_to}
-use Rattle.demand.specs.Verdicts.{verdict_numbers}
+use Rattle.std.proofs.lemmas.Bool.{cases_lt, cases_eq, cond-true, cond-false, eq-eqb, ne_eqb, le-leb}
 use Rattle.demand.specs.declared.verdict.TestRefusal.{TestRefusal}
-use Rattle.demand.specs.declared.verdict.TestRefusal.TheVariants.{DemandExceeds, GainsExceed, SheetCount}
+use Rattle.scheduler.specs.declared.calls.Call.{Call}
+use Rattle.scheduler.specs.declared.calls.Call.TheVariants.{Arrive, Finish, Tick}
 use Rattle.scheduler.specs.declared.calls.CallRefusal.{CallRefusal}
-use Rattle.scheduler.specs.declared.calls.CallRefusal.TheVariants.{NotAdmitted, NoComponent, DeadlineOutOfRange, ClockEnded, TableFull, NoJob, NotOpen}
+use Rattle.scheduler.specs.declared.calls.CallRefusal.TheVariants.{NotAdmitted, NoJob}
+use Rattle.scheduler.specs.declared.calls.Event.TheVariants.{Arrived, Finished, Refused}
 use Rattle.scheduler.specs.declared.job.Ending.TheVariants as ending
 use Rattle.scheduler.specs.declared.job.Job.{Job as Entry}
 use Rattle.scheduler.specs.declared.job.JobStatus.TheVariants as status
-use Rattle.scheduler.specs.History.{Call, History, Job, no_job, Fate, clock, jobs, count, job, units, ends, fate}
-use Rattle.scheduler.specs.History.Call.{arrive, finish, tick}
-use Rattle.scheduler.specs.History.Event.{arrived, finished, refused}
+use Rattle.scheduler.specs.History.{History, Job, no_job, Fate, clock, jobs, count, job, units, ends, fate}
 use Rattle.scheduler.specs.History.Fate.{pending, done, cut}
-use Rattle.scheduler.specs.Numbers.{call_number}
 use Rattle.scheduler.specs.Reasons.{arrive_reason, finish_reason, tick_reason}
 use Rattle.scheduler.specs.Rules.{Plan, admitted, is_pending, refusal_of}
 use Rattle.scheduler.specs.Table.{at, empty_entry, is_open}
 use Rattle.scheduler.specs.Steps.{with_status, ended}
 use Rattle.scheduler.specs.Steps as steps
-use Rattle.scheduler.specs.Recording.{is_admitted, status_of, entry_of, Recorded}
+use Rattle.scheduler.specs.Recording.{status_of, entry_of, Recorded}
 use Rattle.scheduler.proofs.Loads.{born}
 use Rattle.scheduler.proofs.Soundness.{Sound}
-
--- the verdict in numbers says whether the binder is admitted
-verdict_admits : (r : Result (Unit {0}) TestRefusal) → is_admitted (verdict_numbers r) ≡ is_ok r
-verdict_admits (Ok x) = refl
-verdict_admits (Err (DemandExceeds l)) = refl
-verdict_admits (Err GainsExceed) = refl
-verdict_admits (Err SheetCount) = refl
 
 open_pending : (f : Fate) → is_open (status_of f) ≡ is_pending f
 open_pending pending = refl
@@ -40,8 +29,8 @@ open_pending cut = refl
 
 pub pending_so : (f : Fate) → is_open (status_of f) ≡ true → f ≡ pending
 pending_so pending e = refl
-pending_so done e = absurd (false≢true e)
-pending_so cut e = absurd (false≢true e)
+pending_so done e = cc
+pending_so cut e = cc
 
 finish_same : (ok b c : Bool) (n m : ℕ) → (n < m → b ≡ c) → finish_reason ok m n b ≡ finish_reason ok m n c
 finish_same ok b c n m same =
@@ -51,29 +40,6 @@ finish_same ok b c n m same =
     ap (λ (o : Option CallRefusal). cond (not ok) (Some NotAdmitted) o) (cond-true (leb m n) (Some NoJob) _ t ∙ sym (cond-true (leb m n) (Some NoJob) _ t)))
     (cases_lt n m)
 
--- the number of a reason, where there is one
-abbrev pub number_of : Option CallRefusal → Option ℕ
-number_of None = None
-number_of (Some why) = Some (call_number why)
-
--- the number of the first reason that applies
-numbered : (b : Bool) (why : CallRefusal) (o : Option CallRefusal) (n : Option ℕ) → number_of o ≡ n → number_of (cond b (Some why) o) ≡ cond b (Some (call_number why)) n
-numbered true why o n e = refl
-numbered false why o n e = e
-
-arrive_numbered : (p : Plan) (h : History) (k d : ℕ) → number_of (arrive_reason (admitted p) p.parts (clock h) (count h) k d) ≡ refusal_of p h (arrive k d)
-arrive_numbered p h k d =
-    numbered (not (admitted p)) NotAdmitted _ _
-    (numbered (eqb (clock h) 1000000) ClockEnded _ _
-    (numbered (leb p.parts k) NoComponent _ _ (numbered (not (from_to 1 4096 d)) DeadlineOutOfRange _ _ (numbered (leb 96 (count h)) TableFull None None refl))))
-
-finish_numbered : (p : Plan) (h : History) (n : ℕ) → number_of (finish_reason (admitted p) (count h) n (is_pending (fate h n))) ≡ refusal_of p h (finish n)
-finish_numbered p h n =
-    numbered (not (admitted p)) NotAdmitted _ _ (numbered (leb (count h) n) NoJob _ _ (numbered (not (is_pending (fate h n))) NotOpen None None refl))
-
-tick_numbered : (p : Plan) (h : History) → number_of (tick_reason (admitted p) (clock h)) ≡ refusal_of p h tick
-tick_numbered p h = numbered (not (admitted p)) NotAdmitted _ _ (numbered (eqb (clock h) 1000000) ClockEnded None None refl)
-
 -- the record of job n of a history, but for what the job is, and but for how it stands
 abbrev made_of : History → ℕ → Job → Entry
 made_of h n j = record { number = n; component = j.component; arrival = j.arrival; due = j.due; used = units h n; status = status_of (fate h n) }
@@ -81,34 +47,30 @@ made_of h n j = record { number = n; component = j.component; arrival = j.arriva
 abbrev pub with_fate : History → ℕ → Fate → Entry
 with_fate h n f = record { number = n; component = (job h n).component; arrival = (job h n).arrival; due = (job h n).due; used = units h n; status = status_of f }
 
-module _ (p : Plan) (v : ℕ × ℕ) (now : ℕ) (js : List Entry) (h : History) (r : Recorded p v now js h) where
-  ok_same : is_admitted v ≡ admitted p
-  ok_same = ap is_admitted r.tested ∙ verdict_admits (admission p.parts p.bound p.gain)
+module _ (p : Plan) (v : Result (Unit {0}) TestRefusal) (now : ℕ) (js : List Entry) (h : History) (r : Recorded p v now js h) where
+  ok_same : is_ok v ≡ admitted p
+  ok_same = ap is_ok r.tested
 
-  -- the reason that the call gives has the number that the rules give
-  pub arrive_same : (k d : ℕ) → number_of (arrive_reason (is_admitted v) p.parts now (length js) k d) ≡ refusal_of p h (arrive k d)
+  pub arrive_same : (k d : ℕ) → arrive_reason (is_ok v) p.parts now (length js) k d ≡ refusal_of p h (Arrive k d)
   arrive_same k d =
-      ap (λ b. number_of (arrive_reason b p.parts now (length js) k d)) ok_same
-      ∙ ap (λ t. number_of (arrive_reason (admitted p) p.parts t (length js) k d)) r.clocked
-      ∙ ap (λ n. number_of (arrive_reason (admitted p) p.parts (clock h) n k d)) r.counted
-      ∙ arrive_numbered p h k d
+      ap (λ b. arrive_reason b p.parts now (length js) k d) ok_same
+      ∙ ap (λ t. arrive_reason (admitted p) p.parts t (length js) k d) r.clocked
+      ∙ ap (λ n. arrive_reason (admitted p) p.parts (clock h) n k d) r.counted
 
-  pub finish_refused_same : (n : ℕ) → number_of (finish_reason (is_admitted v) (length js) n (is_open (at js n).status)) ≡ refusal_of p h (finish n)
+  pub finish_refused_same : (n : ℕ) → finish_reason (is_ok v) (length js) n (is_open (at js n).status) ≡ refusal_of p h (Finish n)
   finish_refused_same n =
-      ap (λ b. number_of (finish_reason b (length js) n (is_open (at js n).status))) ok_same
-      ∙ ap (λ m. number_of (finish_reason (admitted p) m n (is_open (at js n).status))) r.counted
-      ∙ ap number_of
-      (finish_same (admitted p) (is_open (at js n).status) (is_pending (fate h n)) n (count h)
-      (λ l. ap (λ (j : Entry). is_open j.status) (r.each n l) ∙ open_pending (fate h n)))
-      ∙ finish_numbered p h n
+      ap (λ b. finish_reason b (length js) n (is_open (at js n).status)) ok_same
+      ∙ ap (λ m. finish_reason (admitted p) m n (is_open (at js n).status)) r.counted
+      ∙ finish_same (admitted p) (is_open (at js n).status) (is_pending (fate h n)) n (count h)
+      (λ l. ap (λ (j : Entry). is_open j.status) (r.each n l) ∙ open_pending (fate h n))
 
-  pub tick_same : number_of (tick_reason (is_admitted v) now) ≡ refusal_of p h tick
-  tick_same = ap (λ b. number_of (tick_reason b now)) ok_same ∙ ap (λ t. number_of (tick_reason (admitted p) t)) r.clocked ∙ tick_numbered p h
+  pub tick_same : tick_reason (is_ok v) now ≡ refusal_of p h Tick
+  tick_same = ap (λ b. tick_reason b now) ok_same ∙ ap (tick_reason (admitted p)) r.clocked
 
-  pub refused_recorded : (c : Call) (e : ℕ) → refusal_of p h c ≡ Some e → Recorded p v now js (refused c e ∷ h)
+  pub refused_recorded : (c : Call) (e : CallRefusal) → refusal_of p h c ≡ Some e → Recorded p v now js (Refused c e ∷ h)
   refused_recorded c e q = record { tested = r.tested; clocked = r.clocked; counted = r.counted; each = r.each; follows = (q, r.follows) }
 
-  pub arrived_recorded : Sound p.parts p.bound h → (k d : ℕ) → refusal_of p h (arrive k d) ≡ None → Recorded p v now (js ++ (steps.born now (length js) k d ∷ [])) (arrived k d (length js) ∷ h)
+  pub arrived_recorded : Sound p.parts p.bound h → (k d : ℕ) → refusal_of p h (Arrive k d) ≡ None → Recorded p v now (js ++ (steps.born now (length js) k d ∷ [])) (Arrived k d (length js) ∷ h)
   arrived_recorded sound k d ok =
       record {
         tested = r.tested;
@@ -127,7 +89,7 @@ module _ (p : Plan) (v : ℕ × ℕ) (now : ℕ) (js : List Entry) (h : History)
           let waits : status.Open ≡ status_of (fate h (count h)) = ap status_of (sym (sound.unborn (count h) (omega arith))) in
           cc
 
-      each : (n : ℕ) → n < count (arrived k d (length js) ∷ h) → at (js ++ (steps.born now (length js) k d ∷ [])) n ≡ entry_of (arrived k d (length js) ∷ h) n
+      each : (n : ℕ) → n < count (Arrived k d (length js) ∷ h) → at (js ++ (steps.born now (length js) k d ∷ [])) n ≡ entry_of (Arrived k d (length js) ∷ h) n
       each n l =
           ⊎_elim
           (λ (lt : n < count h).
@@ -139,7 +101,7 @@ module _ (p : Plan) (v : ℕ × ℕ) (now : ℕ) (js : List Entry) (h : History)
           ∙ ap (made_of h n) (sym (get_or_push (jobs h) (born h k d) no_job n e)))
           (cases_lt n (count h))
 
-  pub finished_recorded : (n : ℕ) → refusal_of p h (finish n) ≡ None → n < count h → fate h n ≡ pending → Recorded p v now (set js n (ended ending.Finish (at js n))) (finished n (at js n).used ∷ h)
+  pub finished_recorded : (n : ℕ) → refusal_of p h (Finish n) ≡ None → n < count h → fate h n ≡ pending → Recorded p v now (set js n (ended ending.Finish (at js n))) (Finished n (at js n).used ∷ h)
   finished_recorded n ok known waits =
       record {
         tested = r.tested;
@@ -155,11 +117,11 @@ module _ (p : Plan) (v : ℕ × ℕ) (now : ℕ) (js : List Entry) (h : History)
       ended_is : ended ending.Finish (at js n) ≡ with_fate h n done
       ended_is = ap (ended ending.Finish) was ∙ ap (λ f. cond (is_open (status_of f)) (with_status (with_fate h n f) status.Finished) (with_fate h n f)) waits
 
-      each : (i : ℕ) → i < count h → at (set js n (ended ending.Finish (at js n))) i ≡ entry_of (finished n (at js n).used ∷ h) i
+      each : (i : ℕ) → i < count h → at (set js n (ended ending.Finish (at js n))) i ≡ entry_of (Finished n (at js n).used ∷ h) i
       each i l =
           ⊎_elim
           (λ (e : n ≡ i).
-          let now_done : fate (finished n (at js n).used ∷ h) i ≡ done = cond-true (eqb n i) _ _ (eq-eqb n i e) ∙ ap (λ f. ends f done) (ap (fate h) (sym e) ∙ waits) in
+          let now_done : fate (Finished n (at js n).used ∷ h) i ≡ done = cond-true (eqb n i) _ _ (eq-eqb n i e) ∙ ap (λ f. ends f done) (ap (fate h) (sym e) ∙ waits) in
           subst (λ m. at (set js n (ended ending.Finish (at js n))) m ≡ with_fate h m done) e (get_or-set_same js n _ empty_entry (omega (arith, known, r.counted)) ∙ ended_is)
           ∙ ap (with_fate h i) (sym now_done))
           (λ (ne : n ≡ i → ⊥).

@@ -1,13 +1,15 @@
 -- What every history that follows the rules keeps.
-use Rattle.std.proofs.Common.{◌≡◌, ℕ, ◌+◌, ◌-◌, ◌<◌, ◌≤◌, true, eqb, ltb, leb, ◌⊎◌, [], ◌∷◌, Some, None, Option, sym, refl, ◌∙◌, subst, inl, inr, ⊎_elim, arith}
+use Rattle.std.proofs.Common.{◌≡◌, ℕ, ◌+◌, ◌-◌, ◌<◌, ◌≤◌, true, eqb, ltb, leb, ◌⊎◌, [], ◌∷◌, Some, None, Option, sym, refl, ap, ◌∙◌, subst, inl, inr, ⊎_elim, arith}
 use Rattle.std.proofs.lemmas.List.{length_push}
 use Rattle.std.proofs.lemmas.Bool.{cond-false, cases_lt, cases_Bool, and_parts, and_left, and_from, leb-true, lt-ltb, le-leb, le-ltb, ne_eqb, both_ways}
 use Rattle.demand.specs.Admission.{total}
-use Rattle.scheduler.specs.History.{Call, History, Job, clock, jobs, count, job, gives, units, late, fate, Open, Live, inside, load}
-use Rattle.scheduler.specs.History.Event.{arrived, finished, ticked, refused}
+use Rattle.scheduler.specs.declared.calls.Call.{Call}
+use Rattle.scheduler.specs.declared.calls.CallRefusal.{CallRefusal}
+use Rattle.scheduler.specs.History.{History, Job, clock, jobs, count, job, gives, units, late, fate, Open, Live, inside, load, load_over}
+use Rattle.scheduler.specs.declared.calls.Event.TheVariants.{Arrived, Finished, Ticked, Refused}
+use Rattle.scheduler.specs.declared.calls.Ticked.{Ticked as TickAnswered}
 use Rattle.scheduler.specs.History.Fate.{pending, done, cut}
 use Rattle.scheduler.specs.Windows.{Free, Spent, Ready}
-use Rattle.scheduler.specs.Rules.{Certified}
 use Rattle.scheduler.proofs.Weak.{Fair, Picks, MayAll}
 use Rattle.scheduler.proofs.Sums.{sum_same, sum_more, sum_less}
 use Rattle.scheduler.proofs.Windows.{free_or_full}
@@ -51,7 +53,7 @@ module _ (bound : ℕ → ℕ → ℕ) (h h' : History) (more : (k s e : ℕ) �
 
 module _ (parts : ℕ) (bound : ℕ → ℕ → ℕ) where
   at_start : Sound parts bound []
-  unfolding load
+  unfolding load_over
   at_start = record {
     idle = λ n l. refl;
     unborn = λ n l. refl;
@@ -64,7 +66,7 @@ module _ (parts : ℕ) (bound : ℕ → ℕ → ℕ) where
   }
 
   module _ (h : History) (s : Sound parts bound h) where
-    after_arrived : (k d m : ℕ) → k < parts → 1 ≤ d → Sound parts bound (arrived k d m ∷ h)
+    after_arrived : (k d m : ℕ) → k < parts → 1 ≤ d → Sound parts bound (Arrived k d m ∷ h)
     after_arrived k d m known short = record {
       idle = λ n l. s.idle n (omega (arith, length_push (jobs h) (born h k d)));
       unborn = λ n l. s.unborn n (omega (arith, length_push (jobs h) (born h k d)));
@@ -79,7 +81,7 @@ module _ (parts : ℕ) (bound : ℕ → ℕ → ℕ) where
     }
       where
         next : History
-        next = arrived k d m ∷ h
+        next = Arrived k d m ∷ h
 
         same : (c t e : ℕ) → load next c t e ≡ load h c t e
         same = load_arrived h k d m (s.idle (count h) (omega arith))
@@ -100,8 +102,8 @@ module _ (parts : ℕ) (bound : ℕ → ℕ → ℕ) where
               (λ n l p f. b.later n (l, p) (free_before bound h next more (job h n) f)) (λ _ _ _. b.early) n o.0 o.1 free due;
         }
 
-    after_refused : (c : Call) (why : ℕ) → Sound parts bound (refused c why ∷ h)
-    unfolding load
+    after_refused : (c : Call) (why : CallRefusal) → Sound parts bound (Refused c why ∷ h)
+    unfolding load_over
     after_refused c why = record {
       idle = s.idle;
       unborn = s.unborn;
@@ -113,8 +115,8 @@ module _ (parts : ℕ) (bound : ℕ → ℕ → ℕ) where
       earned = s.earned;
     }
 
-    after_finished : (m u : ℕ) → Open h m → Sound parts bound (finished m u ∷ h)
-    unfolding load
+    after_finished : (m u : ℕ) → Open h m → Sound parts bound (Finished m u ∷ h)
+    unfolding load_over
     after_finished m u o = record {
       idle = s.idle;
       unborn = λ n l. unborn n l;
@@ -126,13 +128,13 @@ module _ (parts : ℕ) (bound : ℕ → ℕ → ℕ) where
       earned = λ n l e. s.earned n l (cut_before (eqb m n) (fate h n) e);
     }
       where
-        open_before : (n : ℕ) → Open (finished m u ∷ h) n → Open h n
+        open_before : (n : ℕ) → Open (Finished m u ∷ h) n → Open h n
         open_before n w = (w.0, (still_pending (eqb m n) (fate h n) done done_pending w.1).1)
 
-        unborn : (n : ℕ) → count h ≤ n → fate (finished m u ∷ h) n ≡ pending
+        unborn : (n : ℕ) → count h ≤ n → fate (Finished m u ∷ h) n ≡ pending
         unborn n l = cond-false (eqb m n) _ _ (ne_eqb m n (omega (arith, o.0))) ∙ s.unborn n l
 
-        busy : (e : ℕ) → Busy parts bound h e → Busy parts bound (finished m u ∷ h) e
+        busy : (e : ℕ) → Busy parts bound h e → Busy parts bound (Finished m u ∷ h) e
         busy e b = record {
           since = b.since;
           early = b.early;
@@ -159,8 +161,8 @@ module _ (parts : ℕ) (bound : ℕ → ℕ → ℕ) where
         (λ t e. load_past h (job h n).component t e) (due_before h n l))
 
     -- what a tick is, whatever it ran
-    module _ (ran : Option ℕ) (held cuts : ℕ) (more : (k t e : ℕ) → load h k t e ≤ load (ticked ran held cuts ∷ h) k t e) (by_one : (k t e : ℕ) → load (ticked ran held cuts ∷ h) k t e ≤ load h k t e + 1) where
-      live_before : (n : ℕ) → Open (ticked ran held cuts ∷ h) n → Live h n
+    module _ (x : TickAnswered) (more : (k t e : ℕ) → load h k t e ≤ load (Ticked x ∷ h) k t e) (by_one : (k t e : ℕ) → load (Ticked x ∷ h) k t e ≤ load h k t e + 1) where
+      live_before : (n : ℕ) → Open (Ticked x ∷ h) n → Live h n
       live_before n w =
           let p = still_pending (late h n) (fate h n) cut cut_pending w.1 in (
             (w.0, p.1),
@@ -169,15 +171,15 @@ module _ (parts : ℕ) (bound : ℕ → ℕ → ℕ) where
                 (cases_lt (clock h) (job h n).due),
           )
 
-      rested : (d : ℕ) → ((m : ℕ) → Ready bound h m → (job h m).due ≤ d → ⊥) → Busy parts bound (ticked ran held cuts ∷ h) d
+      rested : (d : ℕ) → ((m : ℕ) → Ready bound h m → (job h m).due ≤ d → ⊥) → Busy parts bound (Ticked x ∷ h) d
       rested d none = record {
         since = clock h + 1;
         early = omega arith;
         full = omega arith;
-        later = λ n o free due. absurd (none n (live_before n o, free_before bound h (ticked ran held cuts ∷ h) more (job h n) free) due);
+        later = λ n o free due. absurd (none n (live_before n o, free_before bound h (Ticked x ∷ h) more (job h n) free) due);
       }
 
-      ticked_so : Fair parts bound → ((k t e : ℕ) → load (ticked ran held cuts ∷ h) k t e ≤ bound k (e - t)) → ((n : ℕ) → count h ≤ n → gives ran n ≡ 0) → ((d : ℕ) → clock h + 1 ≤ d → Busy parts bound (ticked ran held cuts ∷ h) d) → Sound parts bound (ticked ran held cuts ∷ h)
+      ticked_so : Fair parts bound → ((k t e : ℕ) → load (Ticked x ∷ h) k t e ≤ bound k (e - t)) → ((n : ℕ) → count h ≤ n → gives x.ran n ≡ 0) → ((d : ℕ) → clock h + 1 ≤ d → Busy parts bound (Ticked x ∷ h) d) → Sound parts bound (Ticked x ∷ h)
       ticked_so fair within idle busy = record {
         idle = λ n l. omega (arith, s.idle n l, idle n l);
         unborn = λ n l. cond-false (late h n) _ _ (and_left _ _ (le-ltb n (count h) l)) ∙ s.unborn n l;
@@ -187,7 +189,7 @@ module _ (parts : ℕ) (bound : ℕ → ℕ → ℕ) where
         within = within;
         busy = busy;
         earned = λ n l e.
-            spent_after bound h (ticked ran held cuts ∷ h) more within (job h n)
+            spent_after bound h (Ticked x ∷ h) more within (job h n)
             (⊎_elim (λ (before : fate h n ≡ cut). s.earned n l before)
             (λ (now : (late h n ≡ true) × (fate h n ≡ pending)).
             let due : (job h n).due ≤ clock h = leb-true _ _ (and_parts (ltb n (count h)) (leb (job h n).due (clock h)) now.0).1 in
@@ -195,37 +197,37 @@ module _ (parts : ℕ) (bound : ℕ → ℕ → ℕ) where
             (cut_now (late h n) (fate h n) e));
       }
 
-    after_idle : Fair parts bound → (held cuts : ℕ) → Picks bound h None → Sound parts bound (ticked None held cuts ∷ h)
-    after_idle fair held cuts none =
-        ticked_so None held cuts more by_one fair (λ k t e. omega (arith, load_idle h held cuts k t e, s.within k t e)) (λ n l. refl)
-        (λ d l. rested None held cuts more by_one d (λ m ready _. none m ready))
+    after_idle : Fair parts bound → (x : TickAnswered) → x.ran ≡ None → Picks bound h None → Sound parts bound (Ticked x ∷ h)
+    after_idle fair x ran none =
+        ticked_so x more by_one fair (λ k t e. omega (arith, load_idle h x ran k t e, s.within k t e)) (λ n l. ap (λ o. gives o n) ran)
+        (λ d l. rested x more by_one d (λ m ready _. none m ready))
       where
-        more : (k t e : ℕ) → load h k t e ≤ load (ticked None held cuts ∷ h) k t e
-        more k t e = omega (arith, load_idle h held cuts k t e)
+        more : (k t e : ℕ) → load h k t e ≤ load (Ticked x ∷ h) k t e
+        more k t e = omega (arith, load_idle h x ran k t e)
 
-        by_one : (k t e : ℕ) → load (ticked None held cuts ∷ h) k t e ≤ load h k t e + 1
-        by_one k t e = omega (arith, load_idle h held cuts k t e)
+        by_one : (k t e : ℕ) → load (Ticked x ∷ h) k t e ≤ load h k t e + 1
+        by_one k t e = omega (arith, load_idle h x ran k t e)
 
-    after_run : Fair parts bound → (n held cuts : ℕ) → Picks bound h (Some n) → Sound parts bound (ticked (Some n) held cuts ∷ h)
-    after_run fair n held cuts picks =
-        ticked_so (Some n) held cuts more by_one fair within (λ i l. gives_other h held cuts n i (omega (arith, known)))
-        (λ d l. ⊎_elim (λ (by : d < (job h n).due). rested (Some n) held cuts more by_one d (λ m ready due. absurd (omega (arith, picks.1 m ready))))
+    after_run : Fair parts bound → (x : TickAnswered) (n : ℕ) → x.ran ≡ Some n → Picks bound h (Some n) → Sound parts bound (Ticked x ∷ h)
+    after_run fair x n ran picks =
+        ticked_so x more by_one fair within (λ i l. gives_other h x n ran i (omega (arith, known)))
+        (λ d l. ⊎_elim (λ (by : d < (job h n).due). rested x more by_one d (λ m ready due. absurd (omega (arith, picks.1 m ready))))
         (λ (by : (job h n).due ≤ d). busier d by (s.busy d (omega arith))) (cases_lt d (job h n).due))
       where
         next : History
-        next = ticked (Some n) held cuts ∷ h
+        next = Ticked x ∷ h
 
         known : n < count h
         known = picks.0.0.0.0
 
         more : (k t e : ℕ) → load h k t e ≤ load next k t e
         more k t e =
-            ⊎_elim (λ i. omega (arith, load_in h held cuts n known k t e i)) (λ i. omega (arith, load_out h held cuts n k t e i))
+            ⊎_elim (λ i. omega (arith, load_in h x n ran known k t e i)) (λ i. omega (arith, load_out h x n ran k t e i))
             (cases_Bool (inside k t e (job h n)))
 
         by_one : (k t e : ℕ) → load next k t e ≤ load h k t e + 1
         by_one k t e =
-            ⊎_elim (λ i. omega (arith, load_in h held cuts n known k t e i)) (λ i. omega (arith, load_out h held cuts n k t e i))
+            ⊎_elim (λ i. omega (arith, load_in h x n ran known k t e i)) (λ i. omega (arith, load_out h x n ran k t e i))
             (cases_Bool (inside k t e (job h n)))
 
         within : (k t e : ℕ) → load next k t e ≤ bound k (e - t)
@@ -234,29 +236,29 @@ module _ (parts : ℕ) (bound : ℕ → ℕ → ℕ) where
             (λ i.
             let lies = inside_true k t e (job h n) i in
             let room : load h k t e + 1 ≤ bound k (e - t) = subst (λ c. load h c t e + 1 ≤ bound c (e - t)) lies.0 (picks.0.1 t e (lies.1, lies.2)) in
-            omega (arith, load_in h held cuts n known k t e i, room))
-            (λ i. omega (arith, load_out h held cuts n k t e i, s.within k t e)) (cases_Bool (inside k t e (job h n)))
+            omega (arith, load_in h x n ran known k t e i, room))
+            (λ i. omega (arith, load_out h x n ran k t e i, s.within k t e)) (cases_Bool (inside k t e (job h n)))
 
         busier : (d : ℕ) → (job h n).due ≤ d → Busy parts bound h d → Busy parts bound next d
         busier d by b =
             let began = b.later n picks.0.0.0 picks.0.1 by in
-            let here = load_in h held cuts n known (job h n).component b.since d (inside_from (job h n).component b.since d (job h n) refl began by) in
+            let here = load_in h x n ran known (job h n).component b.since d (inside_from (job h n).component b.since d (job h n) refl began by) in
             let one = sum_more parts (λ k. load h k b.since d) (λ k. load next k b.since d) (job h n).component (s.timely n known).known here
-            (λ k _ ne. load_out h held cuts n k b.since d (inside_other k b.since d (job h n) (λ e. ne (sym e)))) in
+            (λ k _ ne. load_out h x n ran k b.since d (inside_other k b.since d (job h n) (λ e. ne (sym e)))) in
             record {
               since = b.since;
               early = omega (arith, b.early);
               full = omega (arith, b.full, one);
-              later = λ m o free due. b.later m (live_before (Some n) held cuts more by_one m o).0 (free_before bound h next more (job h m) free) due;
+              later = λ m o free due. b.later m (live_before x more by_one m o).0 (free_before bound h next more (job h m) free) due;
             }
+
+    after_tick : Fair parts bound → (x : TickAnswered) (ran : Option ℕ) → x.ran ≡ ran → Picks bound h ran → Sound parts bound (Ticked x ∷ h)
+    after_tick fair x None e none = after_idle fair x e none
+    after_tick fair x (Some n) e picks = after_run fair x n e picks
 
 pub sound : (parts : ℕ) (bound : ℕ → ℕ → ℕ) → Fair parts bound → (h : History) → MayAll parts bound h → Sound parts bound h
 sound parts bound fair [] rules = at_start parts bound
-sound parts bound fair (arrived k d n ∷ h) rules = after_arrived parts bound h (sound parts bound fair h rules.1) k d n rules.0.0 rules.0.1
-sound parts bound fair (finished n u ∷ h) rules = after_finished parts bound h (sound parts bound fair h rules.1) n u rules.0
-sound parts bound fair (ticked (Some n) held cuts ∷ h) rules = after_run parts bound h (sound parts bound fair h rules.1) fair n held cuts rules.0
-sound parts bound fair (ticked None held cuts ∷ h) rules = after_idle parts bound h (sound parts bound fair h rules.1) fair held cuts rules.0
-sound parts bound fair (refused c why ∷ h) rules = after_refused parts bound h (sound parts bound fair h rules.1) c why
-
-pub always_certified : (parts : ℕ) (bound : ℕ → ℕ → ℕ) → Fair parts bound → (h : History) → MayAll parts bound h → Certified bound h
-always_certified parts bound fair h rules = let s = sound parts bound fair h rules in record { never_past_the_bound = s.within; cut_only_when_spent = s.earned }
+sound parts bound fair (Arrived k d n ∷ h) rules = after_arrived parts bound h (sound parts bound fair h rules.1) k d n rules.0.0 rules.0.1
+sound parts bound fair (Finished n u ∷ h) rules = after_finished parts bound h (sound parts bound fair h rules.1) n u rules.0
+sound parts bound fair (Ticked x ∷ h) rules = after_tick parts bound h (sound parts bound fair h rules.1) fair x x.ran refl rules.0
+sound parts bound fair (Refused c why ∷ h) rules = after_refused parts bound h (sound parts bound fair h rules.1) c why

@@ -1,19 +1,20 @@
 -- A tick keeps the scheduler in step with its history.
-use Rattle.std.proofs.Common.{◌≡◌, ℕ, zero, suc, ◌+◌, ◌<◌, Bool, true, false, cond, ◌&&◌, eqb, ltb, leb, ◌⊎◌, List, ◌∷◌, length, Some, None, Option, sym, refl, ap, ◌∙◌, subst, inl, inr, ⊎_elim, arith, get_or-set_other, get_or-set_same}
+use Rattle.std.proofs.Common.{◌≡◌, ℕ, zero, suc, ◌+◌, ◌<◌, Bool, true, false, cond, ◌&&◌, eqb, ltb, leb, ◌⊎◌, List, ◌∷◌, length, Some, None, Option, Result, sym, refl, ap, ◌∙◌, subst, inl, inr, ⊎_elim, arith, get_or-set_other, get_or-set_same}
 use lib.ListN.{length-map}
 use Rattle.std.proofs.lemmas.List.{get_or-map}
-use Rattle.std.proofs.lemmas.Bool.{cases_eq, cond-true, cond-false, eq-eqb, ne_eqb, le-leb, leb-true, leb-false, lt-leb, lt-ltb, and_from, and_parts, false≢true}
-use Rattle.scheduler.specs.declared.calls.Ticked.{Ticked}
+use Rattle.std.proofs.lemmas.Bool.{cases_eq, cond-true, cond-false, eq-eqb, ne_eqb, le-leb, leb-true, leb-false, lt-leb, lt-ltb, and_from, and_parts}
+use Rattle.demand.specs.declared.verdict.TestRefusal.{TestRefusal}
+use Rattle.scheduler.specs.declared.calls.Call.TheVariants.{Tick}
+use Rattle.scheduler.specs.declared.calls.Event.TheVariants.{Ticked}
+use Rattle.scheduler.specs.declared.calls.Ticked.{Ticked as TickAnswered}
 use Rattle.scheduler.specs.declared.job.Job.{Job as Entry}
 use Rattle.scheduler.specs.declared.job.JobStatus.TheVariants as status
-use Rattle.scheduler.specs.History.{History, Job, Fate, clock, count, job, gives, units, ends, late, fate, Cuts, Live, Counts, inside, load}
-use Rattle.scheduler.specs.History.Call.{tick}
-use Rattle.scheduler.specs.History.Event.{ticked}
+use Rattle.scheduler.specs.History.{History, Job, Fate, clock, count, job, gives, units, ends, late, fate, Cuts, Live, Counts, inside, load, load_over}
 use Rattle.scheduler.specs.History.Fate.{pending, done, cut}
 use Rattle.scheduler.specs.Windows.{Free, Ready, Held}
 use Rattle.scheduler.specs.Order.{Precedes, FirstOf}
-use Rattle.scheduler.specs.Rules.{Plan, refusal_of, RunsFirst}
-use Rattle.scheduler.specs.Table.{at, empty_entry, job_of, job_in, used_in, load_over, table_load, is_open, OpenIn, ReadyIn, HeldIn}
+use Rattle.scheduler.specs.Rules.{Plan, refusal_of}
+use Rattle.scheduler.specs.Table.{at, empty_entry, job_of, job_in, used_in, table_load, is_open, OpenIn, ReadyIn, HeldIn}
 use Rattle.scheduler.specs.Steps.{with_status, with_used, is_due, cut_at, cut_due, DueIn, with_unit}
 use Rattle.scheduler.specs.Recording.{status_of, Recorded, Ticks}
 use Rattle.scheduler.proofs.Keeping.{unit_length}
@@ -41,14 +42,9 @@ first_same j i P Q to from same (Some n) found = (
       (found.1 m (from m q)),
 )
 
--- the first of the ready jobs of a history is the one that runs
-runs_first : (p : Plan) (h : History) (o : Option ℕ) → FirstOf (job h) (Ready p.bound h) o → RunsFirst p h o
-runs_first p h None none = none
-runs_first p h (Some n) found = found
-
 true_and : (b c : Bool) → b ≡ true → (b && c) ≡ c
 true_and true c e = refl
-true_and false c e = absurd (false≢true e)
+true_and false c e = cc
 
 -- how a job of a history stands after the cut
 cut_fate : (b : Bool) (h : History) (n : ℕ) (f : Fate) → cond b (cond (is_open (status_of f)) (with_status (with_fate h n f) status.Cut) (with_fate h n f)) (with_fate h n f) ≡ with_fate h n (cond b (ends f cut) f)
@@ -57,7 +53,7 @@ cut_fate true h n done = refl
 cut_fate true h n cut = refl
 cut_fate false h n f = refl
 
-module _ (p : Plan) (v : ℕ × ℕ) (now : ℕ) (js : List Entry) (h : History) (r : Recorded p v now js h) where
+module _ (p : Plan) (v : Result (Unit {0}) TestRefusal) (now : ℕ) (js : List Entry) (h : History) (r : Recorded p v now js h) where
   -- the records after the cuts
   abbrev js₁ : List Entry
   js₁ = cut_due now js
@@ -76,7 +72,7 @@ module _ (p : Plan) (v : ℕ × ℕ) (now : ℕ) (js : List Entry) (h : History)
   job₁ n l = ap job_of (at₁ n l)
 
   load₁ : (k s e : ℕ) → table_load js₁ k s e ≡ load h k s e
-  unfolding load load_over
+  unfolding load_over
   load₁ k s e =
       sum_same (length js₁) (λ n. cond (inside k s e (job_in js₁ n)) (used_in js₁ n) 0) (λ n. cond (inside k s e (job h n)) (units h n) 0)
       (λ n l. ap (λ (j : Entry). cond (inside k s e (job_of j)) j.used 0) (at₁ n (omega (arith, l, length₁))))
@@ -125,15 +121,15 @@ module _ (p : Plan) (v : ℕ × ℕ) (now : ℕ) (js : List Entry) (h : History)
       ap (is_due now) (r.each n l)
       ∙ and_from (is_open (status_of (fate h n))) (leb (job h n).due now) (ap (λ f. is_open (status_of f)) w.0.1) (le-leb (job h n).due now (omega (arith, w.1, r.clocked)))
 
-  module _ (x : Ticked) (after : List Entry) (t : Ticks p.bound now js x after) where
+  module _ (x : TickAnswered) (after : List Entry) (t : Ticks p.bound now js x after) where
     late₁ : (n : ℕ) → n < count h → late h n ≡ leb (job h n).due now
     late₁ n l = true_and (ltb n (count h)) (leb (job h n).due (clock h)) (lt-ltb n (count h) l) ∙ ap (leb (job h n).due) (sym r.clocked)
 
-    fate_next : (n : ℕ) → n < count h → fate₁ n ≡ fate (ticked x.ran x.held x.cut ∷ h) n
+    fate_next : (n : ℕ) → n < count h → fate₁ n ≡ fate (Ticked x ∷ h) n
     fate_next n l = ap (λ b. cond b (ends (fate h n) cut) (fate h n)) (sym (late₁ n l))
 
     abbrev with_units : ℕ → ℕ → Entry
-    with_units n u = record { number = n; component = (job h n).component; arrival = (job h n).arrival; due = (job h n).due; used = u; status = status_of (fate (ticked x.ran x.held x.cut ∷ h) n) }
+    with_units n u = record { number = n; component = (job h n).component; arrival = (job h n).arrival; due = (job h n).due; used = u; status = status_of (fate (Ticked x ∷ h) n) }
 
     cut_only : (n : ℕ) → n < count h → at js₁ n ≡ with_units n (units h n)
     cut_only n l = at₁ n l ∙ ap (with_fate h n) (fate_next n l)
@@ -155,13 +151,12 @@ module _ (p : Plan) (v : ℕ × ℕ) (now : ℕ) (js : List Entry) (h : History)
         get_or-set_other js₁ m n _ empty_entry (λ q. ne (sym q)) ∙ more_units n (gives (Some m) n) l (cond-false (eqb m n) 1 0 (ne_eqb m n ne)))
         (cases_eq m n)
 
-    runs : RunsFirst p h x.ran
+    runs : FirstOf (job h) (Ready p.bound h) x.ran
     runs =
-        runs_first p h x.ran
-        (first_same (job_in js₁) (job h) (ReadyIn p.bound js₁) (Ready p.bound h) ready_so ready_from
-        (λ n w. job₁ n (omega (arith, w.0.0, length₁))) x.ran t.first_ran)
+        first_same (job_in js₁) (job h) (ReadyIn p.bound js₁) (Ready p.bound h) ready_so ready_from
+        (λ n w. job₁ n (omega (arith, w.0.0, length₁))) x.ran t.first_ran
 
-    pub ticked_recorded : refusal_of p h tick ≡ None → Recorded p v (now + 1) after (ticked x.ran x.held x.cut ∷ h)
+    pub ticked_recorded : refusal_of p h Tick ≡ None → Recorded p v (now + 1) after (Ticked x ∷ h)
     ticked_recorded ok =
         record {
           tested = r.tested;
@@ -181,4 +176,4 @@ module _ (p : Plan) (v : ℕ × ℕ) (now : ℕ) (js : List Entry) (h : History)
         }
       where
         ran_known : (m : ℕ) → x.ran ≡ Some m → m < count h
-        ran_known m e = (subst (RunsFirst p h) e runs).0.0.0.0
+        ran_known m e = (subst (λ o. FirstOf (job h) (Ready p.bound h) o) e runs).0.0.0.0

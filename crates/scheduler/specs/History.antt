@@ -2,20 +2,8 @@
 -- and how it ended, and the load of a component in a window are read from it alone.
 use Rattle.std.specs.Prelude.{◌≡◌, ℕ, zero, suc, ◌+◌, ◌<◌, ◌≤◌, Bool, cond, ◌&&◌, ◌⊎◌, List, [], ◌∷◌, ◌++◌, length, Some, None, Option, ◌==◌, nat_le, nat_lt, slice_index_or}
 use Rattle.demand.specs.Admission.{total}
-
--- arrive names a component and a deadline d, counted from the arrival; finish names a job
-pub data Call : Type 0 where
-  arrive : (component d : ℕ) → Call
-  finish : (job : ℕ) → Call
-  tick : Call
-
--- A call with its answer. An accepted arrival answers the job's number, an accepted finish the units that the job has run, and an
--- accepted tick the job that ran, if any, how many open jobs it held back, and how many it cut.
-pub data Event : Type 0 where
-  arrived : (component d job : ℕ) → Event
-  finished : (job units : ℕ) → Event
-  ticked : (ran : Option ℕ) → (held cuts : ℕ) → Event
-  refused : Call → (why : ℕ) → Event
+use Rattle.scheduler.specs.declared.calls.Event.{Event}
+use Rattle.scheduler.specs.declared.calls.Event.TheVariants.{Arrived, Finished, Ticked, Refused}
 
 -- the newest event first
 abbrev pub History : Type 0
@@ -24,10 +12,10 @@ History = List Event
 -- how many ticks were accepted
 abbrev pub clock : History → ℕ
 clock [] = 0
-clock (arrived k d n ∷ h) = clock h
-clock (finished n u ∷ h) = clock h
-clock (ticked ran held cuts ∷ h) = clock h + 1
-clock (refused c why ∷ h) = clock h
+clock (Arrived k d n ∷ h) = clock h
+clock (Finished n u ∷ h) = clock h
+clock (Ticked x ∷ h) = clock h + 1
+clock (Refused c why ∷ h) = clock h
 
 -- an accepted arrival
 pub record Job : Type 0 where
@@ -41,10 +29,10 @@ no_job = record { component = 0; arrival = 0; due = 0 }
 -- the jobs, by their numbers: those that were accepted, in that order
 abbrev pub jobs : History → List Job
 jobs [] = []
-jobs (arrived k d n ∷ h) = jobs h ++ (record { component = k; arrival = clock h; due = clock h + d } ∷ [])
-jobs (finished n u ∷ h) = jobs h
-jobs (ticked ran held cuts ∷ h) = jobs h
-jobs (refused c why ∷ h) = jobs h
+jobs (Arrived k d n ∷ h) = jobs h ++ (record { component = k; arrival = clock h; due = clock h + d } ∷ [])
+jobs (Finished n u ∷ h) = jobs h
+jobs (Ticked x ∷ h) = jobs h
+jobs (Refused c why ∷ h) = jobs h
 
 abbrev pub count : History → ℕ
 count h = length (jobs h)
@@ -60,10 +48,10 @@ gives (Some m) n = cond (m == n) 1 0
 -- how many ticks ran the job n
 abbrev pub units : History → ℕ → ℕ
 units [] n = 0
-units (arrived k d m ∷ h) n = units h n
-units (finished m u ∷ h) n = units h n
-units (ticked ran held cuts ∷ h) n = units h n + gives ran n
-units (refused c why ∷ h) n = units h n
+units (Arrived k d m ∷ h) n = units h n
+units (Finished m u ∷ h) n = units h n
+units (Ticked x ∷ h) n = units h n + gives x.ran n
+units (Refused c why ∷ h) n = units h n
 
 -- how a job stands: open, finished, or cut at its deadline; a number that no job has yet counts as open
 pub data Fate : Type 0 where
@@ -82,10 +70,10 @@ late h n = nat_lt n (count h) && nat_le (job h n).due (clock h)
 -- a finish of an open job finishes it, and a tick cuts each open job that is late
 abbrev pub fate : History → ℕ → Fate
 fate [] n = pending
-fate (arrived k d m ∷ h) n = fate h n
-fate (finished m u ∷ h) n = cond (m == n) (ends (fate h n) done) (fate h n)
-fate (ticked ran held cuts ∷ h) n = cond (late h n) (ends (fate h n) cut) (fate h n)
-fate (refused c why ∷ h) n = fate h n
+fate (Arrived k d m ∷ h) n = fate h n
+fate (Finished m u ∷ h) n = cond (m == n) (ends (fate h n) done) (fate h n)
+fate (Ticked x ∷ h) n = cond (late h n) (ends (fate h n) cut) (fate h n)
+fate (Refused c why ∷ h) n = fate h n
 
 abbrev pub Open : History → ℕ → Type 0
 Open h n = (n < count h) × (fate h n ≡ pending)
@@ -105,9 +93,13 @@ Lies j s e = (s ≤ j.arrival) × (j.due ≤ e)
 abbrev pub inside : ℕ → ℕ → ℕ → Job → Bool
 inside k s e j = j.component == k && (nat_le s j.arrival && nat_le j.due e)
 
--- the units that the jobs of the component k that lie in the window have run, those that have ended too
-unfoldable pub load : History → ℕ → ℕ → ℕ → ℕ
-load h k s e = total (count h) (λ n. cond (inside k s e (job h n)) (units h n) 0)
+-- Of so many jobs, by what each is and what it has run: the units that those of the component k that lie in the window have run,
+-- those that have ended too.
+unfoldable pub load_over : ℕ → (ℕ → Job) → (ℕ → ℕ) → ℕ → ℕ → ℕ → ℕ
+load_over n job_at run k s e = total n (λ i. cond (inside k s e (job_at i)) (run i) 0)
+
+abbrev pub load : History → ℕ → ℕ → ℕ → ℕ
+load h = load_over (count h) (job h) (units h)
 
 -- c of the numbers below n have P
 abbrev pub Counts : (ℕ → Type 0) → ℕ → ℕ → Type 0

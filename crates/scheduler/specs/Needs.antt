@@ -2,10 +2,9 @@
 use Rattle.std.specs.Prelude.{◌≡◌, ℕ, ◌-◌, ◌<◌, ◌≤◌}
 use Rattle.demand.specs.declared.binder.Binder.{Ghosts}
 use Rattle.scheduler.specs.declared.scheduler.Scheduler.{Scheduler}
-use Rattle.scheduler.specs.History.{History, count, job, units, fate}
+use Rattle.scheduler.specs.History.{History, count, job, units, fate, load_over}
 use Rattle.scheduler.specs.History.Fate.{cut}
 use Rattle.scheduler.specs.Records.{Records}
-use Rattle.scheduler.specs.Table.{load_over}
 
 -- Each job has a need. The component k keeps to its sheet: in every window the needs of its jobs that lie in it add up to at most its
 -- bound for that length, and none of its jobs has run more than its need.

@@ -3,7 +3,9 @@
 use Rattle.std.specs.Prelude.{◌≡◌, ℕ, ◌+◌, ◌-◌, ◌<◌, ◌≤◌, Bool, true, cond, ◌&&◌, ◌||◌, List, length, Some, None, Option, ◌==◌, nat_le, nat_lt, slice_index_or}
 use Rattle.demand.specs.Admission.{total}
 use Rattle.scheduler.specs.declared.job.Job.{Job as Entry}
-use Rattle.scheduler.specs.Table.{at, OpenIn}
+use Rattle.scheduler.specs.declared.window.Window.{Window}
+use Rattle.scheduler.specs.History.{inside}
+use Rattle.scheduler.specs.Table.{at, job_of, arrival_in, OpenIn}
 
 -- the job is one of the component k and due by e
 abbrev pub due_by : ℕ → ℕ → Entry → Bool
@@ -22,34 +24,25 @@ abbrev pub SpentFrom : (ℕ → ℕ → ℕ) → List Entry → ℕ → ℕ → 
 SpentFrom bound js k e i =
     (i < length js) × (due_by k e (at js i) ≡ true) × (bound k (e - (at js i).arrival) + used_below js k e i ≤ used_below js k e (length js))
 
--- the least number that has P, or none where none has it
-abbrev pub LeastOf : (ℕ → Type 0) → Option ℕ → Type 0
-LeastOf P (Some i) = P i × ((m : ℕ) → P m → i ≤ m)
-LeastOf P None = (m : ℕ) → P m → ⊥
+-- the least tick of those that have P, or none where none has it
+abbrev pub EarliestOf : (ℕ → Type 0) → (ℕ → ℕ) → Option ℕ → Type 0
+EarliestOf P tick (Some t) = ((i : ℕ) × P i × (tick i ≡ t)) × ((m : ℕ) → P m → t ≤ tick m)
+EarliestOf P tick None = (m : ℕ) → P m → ⊥
 
 -- some open job of the component k is due by e
 abbrev pub OpenBy : List Entry → ℕ → ℕ → Type 0
 OpenBy js k e = (n : ℕ) × OpenIn js n × (due_by k e (at js n) ≡ true)
 
--- At each job's due tick as an end before which an open job of its component is due: the first job from whose arrival on the bound
--- is spent.
-abbrev pub Starts : (ℕ → ℕ → ℕ) → List Entry → List (Option ℕ) → Type 0
-Starts bound js starts =
-    (b : ℕ) → b < length js → OpenBy js (at js b).component (at js b).due
-    → LeastOf (SpentFrom bound js (at js b).component (at js b).due) (slice_index_or starts b None)
+-- Of the windows of a job's component that end where it is due: the spent one that begins first. None also where no open job is due by
+-- then.
+abbrev pub FirstSpent : (ℕ → ℕ → ℕ) → List Entry → Entry → Option Window → Type 0
+FirstSpent bound js last (Some w) =
+    (w.component ≡ last.component) × (w.end ≡ last.due) × EarliestOf (SpentFrom bound js last.component last.due) (arrival_in js) (Some w.start)
+FirstSpent bound js last None = OpenBy js last.component last.due → EarliestOf (SpentFrom bound js last.component last.due) (arrival_in js) None
 
--- each start is a job
-abbrev pub Known : List Entry → List (Option ℕ) → Type 0
-Known js starts = (b i : ℕ) → slice_index_or starts b None ≡ Some i → i < length js
-
--- there is a start, which arrived by the tick t
-abbrev pub StartsBy : List Entry → Option ℕ → ℕ → Type 0
-StartsBy js start t = (i : ℕ) × (start ≡ Some i) × ((at js i).arrival ≤ t)
-
--- job n lies between such a start and the due tick of job b, one of its component
-abbrev pub Between : List Entry → List (Option ℕ) → ℕ → ℕ → Type 0
-Between js starts n b =
-    (b < length js) × ((at js b).component ≡ (at js n).component) × ((at js n).due ≤ (at js b).due) × StartsBy js (slice_index_or starts b None) (at js n).arrival
+-- the job lies in one of the windows of its component
+abbrev pub HeldBy : List (Option Window) → Entry → Type 0
+HeldBy ws j = (b : ℕ) × (w : Window) × (b < length ws) × (slice_index_or ws b None ≡ Some w) × (inside w.component w.start w.end (job_of j) ≡ true)
 
 -- a job goes before one of a lower number: it is due first, or at the same tick and of a lower component
 abbrev pub overtakes : Entry → Entry → Bool

@@ -1,11 +1,11 @@
 -- What a scheduler records: the table and the clock are those that its history calls for, and the history follows the rules.
-use Rattle.std.specs.Prelude.{◌≡◌, ℕ, ◌+◌, ◌<◌, Bool, List, [], ◌∷◌, ◌++◌, length, Some, None, Ok, Err, Result, ◌==◌, slice_set}
+use Rattle.std.specs.Prelude.{◌≡◌, ℕ, ◌+◌, ◌<◌, List, [], ◌∷◌, ◌++◌, length, is_ok, Some, None, Ok, Err, Result, slice_set}
 use Rattle.demand.specs.Admission.{admission}
-use Rattle.demand.specs.Verdicts.{verdict_numbers}
-use Rattle.scheduler.specs.declared.calls.Call.TheVariants.{Arrive, Finish, Tick}
+use Rattle.demand.specs.declared.verdict.TestRefusal.{TestRefusal}
+use Rattle.scheduler.specs.declared.calls.Call.{Call}
 use Rattle.scheduler.specs.declared.calls.CallRefusal.{CallRefusal}
 use Rattle.scheduler.specs.declared.calls.Event.{Event}
-use Rattle.scheduler.specs.declared.calls.Event.TheVariants as event
+use Rattle.scheduler.specs.declared.calls.Event.TheVariants.{Refused}
 use Rattle.scheduler.specs.declared.calls.Ticked.{Ticked}
 use Rattle.scheduler.specs.declared.job.Ending.TheVariants as ending
 use Rattle.scheduler.specs.declared.job.Job.{Job as Entry}
@@ -18,10 +18,6 @@ use Rattle.scheduler.specs.Reasons.{tick_reason}
 use Rattle.scheduler.specs.Rules.{Plan, Follows}
 use Rattle.scheduler.specs.Table.{at, job_in, ReadyIn, HeldIn}
 use Rattle.scheduler.specs.Steps.{ended, cut_due, DueIn, with_unit, born}
-
--- a verdict in numbers that admits
-abbrev pub is_admitted : ℕ × ℕ → Bool
-is_admitted verdict = verdict.0 == 0
 
 -- the records after an arrive, and after a finish
 abbrev pub arrive_leaves : ℕ → List Entry → ℕ → ℕ → Result ℕ CallRefusal → List Entry
@@ -40,27 +36,19 @@ pub record Ticks (bound : ℕ → ℕ → ℕ) (now : ℕ) (js : List Entry) (x 
   pub first_ran : FirstOf (job_in (cut_due now js)) (ReadyIn bound (cut_due now js)) x.ran
   pub one_unit_more : after ≡ with_unit x.ran (cut_due now js)
 
-abbrev pub TickAnswer : (ℕ → ℕ → ℕ) → (ℕ × ℕ) → ℕ → List Entry → Result Ticked CallRefusal → List Entry → Type 0
-TickAnswer bound verdict now js (Ok x) after = (tick_reason (is_admitted verdict) now ≡ None) × Ticks bound now js x after
-TickAnswer bound verdict now js (Err e) after = (tick_reason (is_admitted verdict) now ≡ Some e) × (after ≡ js)
+abbrev pub TickAnswer : (ℕ → ℕ → ℕ) → Result (Unit {0}) TestRefusal → ℕ → List Entry → Result Ticked CallRefusal → List Entry → Type 0
+TickAnswer bound verdict now js (Ok x) after = (tick_reason (is_ok verdict) now ≡ None) × Ticks bound now js x after
+TickAnswer bound verdict now js (Err e) after = (tick_reason (is_ok verdict) now ≡ Some e) × (after ≡ js)
 
 -- an accepted tick raises the clock, also when nothing ran
 abbrev pub clock_after : ℕ → Result Ticked CallRefusal → ℕ
 clock_after now (Ok x) = now + 1
 clock_after now (Err e) = now
 
--- a call with the answer that it got
-abbrev pub arrive_event : ℕ → ℕ → Result ℕ CallRefusal → Event
-arrive_event k d (Ok n) = event.Arrived k d n
-arrive_event k d (Err e) = event.Refused (Arrive k d) e
-
-abbrev pub finish_event : ℕ → Result ℕ CallRefusal → Event
-finish_event n (Ok u) = event.Finished n u
-finish_event n (Err e) = event.Refused (Finish n) e
-
-abbrev pub tick_event : Result Ticked CallRefusal → Event
-tick_event (Ok x) = event.Ticked x.ran x.held x.cut
-tick_event (Err e) = event.Refused Tick e
+-- a call with the answer that it got: what an accepted one is recorded as, or its refusal
+abbrev pub event_of : {X : Type 0} → Call → (X → Event) → Result X CallRefusal → Event
+event_of c accepted (Ok x) = accepted x
+event_of c accepted (Err e) = Refused c e
 
 -- the record of job n that a history calls for
 abbrev pub status_of : Fate → JobStatus
@@ -73,8 +61,8 @@ entry_of h n = record { number = n; component = (job h n).component; arrival = (
 
 -- The verdict is the admission test's, the clock and the records are those that the history calls for, and every answer in the history
 -- follows the rules.
-pub record Recorded (p : Plan) (verdict : ℕ × ℕ) (now : ℕ) (js : List Entry) (h : History) : Type 0 where
-  pub tested : verdict ≡ verdict_numbers (admission p.parts p.bound p.gain)
+pub record Recorded (p : Plan) (verdict : Result (Unit {0}) TestRefusal) (now : ℕ) (js : List Entry) (h : History) : Type 0 where
+  pub tested : verdict ≡ admission p.parts p.bound p.gain
   pub clocked : now ≡ clock h
   pub counted : length js ≡ count h
   pub each : (n : ℕ) → n < count h → at js n ≡ entry_of h n

@@ -1,10 +1,11 @@
 -- The calls of a scheduler, over any kind of binder.
-use Rattle.std.specs.Prelude.{◌≡◌, ℕ, List, length, Option, Result}
+use Rattle.std.specs.Prelude.{◌≡◌, ℕ, List, length, is_ok, Option, Result}
 use Rattle.demand.specs.declared.binder.Binder.{Ghosts}
 use Rattle.scheduler.specs.declared.calls.Call.{Call}
 use Rattle.scheduler.specs.declared.calls.Call.TheVariants.{Arrive, Finish, Tick}
 use Rattle.scheduler.specs.declared.calls.CallRefusal.{CallRefusal}
 use Rattle.scheduler.specs.declared.calls.Event.{Event}
+use Rattle.scheduler.specs.declared.calls.Event.TheVariants as event
 use Rattle.scheduler.specs.declared.calls.Ticked.{Ticked}
 use Rattle.scheduler.specs.declared.job.Job.{Job as Entry}
 use Rattle.scheduler.specs.declared.scheduler.Scheduler.{Scheduler}
@@ -13,7 +14,7 @@ use Rattle.scheduler.specs.Reasons.{arrive_reason, finish_reason, tick_reason}
 use Rattle.scheduler.specs.Rules.{plan_of, Certified}
 use Rattle.scheduler.specs.Table.{at, is_open}
 use Rattle.scheduler.specs.Steps.{unless, records}
-use Rattle.scheduler.specs.Recording.{is_admitted, arrive_leaves, finish_leaves, TickAnswer, clock_after, arrive_event, finish_event, tick_event, Recorded}
+use Rattle.scheduler.specs.Recording.{arrive_leaves, finish_leaves, TickAnswer, clock_after, event_of, Recorded}
 
 module _ {B : Type 0} where
   abbrev pub jobs_of : Scheduler B → List Entry
@@ -21,13 +22,13 @@ module _ {B : Type 0} where
 
   -- the refusals of the three calls
   abbrev pub arrive_refused : Ghosts B → Scheduler B → ℕ → ℕ → Option CallRefusal
-  arrive_refused g s k d = arrive_reason (is_admitted s.verdict) (g.count s.binder) s.clock (length (jobs_of s)) k d
+  arrive_refused g s k d = arrive_reason (is_ok s.verdict) (g.count s.binder) s.clock (length (jobs_of s)) k d
 
   abbrev pub finish_refused : Scheduler B → ℕ → Option CallRefusal
-  finish_refused s n = finish_reason (is_admitted s.verdict) (length (jobs_of s)) n (is_open (at (jobs_of s) n).status)
+  finish_refused s n = finish_reason (is_ok s.verdict) (length (jobs_of s)) n (is_open (at (jobs_of s) n).status)
 
   abbrev pub tick_refused : Scheduler B → Option CallRefusal
-  tick_refused s = tick_reason (is_admitted s.verdict) s.clock
+  tick_refused s = tick_reason (is_ok s.verdict) s.clock
 
   -- binder and verdict are those of making
   pub record SameBinder (s t : Scheduler B) : Type 0 where
@@ -51,9 +52,9 @@ module _ {B : Type 0} where
 
   -- any of the three
   abbrev pub Performs : Ghosts B → Scheduler B → Call → Event → Scheduler B → Type 0
-  Performs g s (Arrive k d) e t = (r : Result ℕ CallRefusal) × Arrives g s k d r t × (e ≡ arrive_event k d r)
-  Performs g s (Finish n) e t = (r : Result ℕ CallRefusal) × Finishes s n r t × (e ≡ finish_event n r)
-  Performs g s Tick e t = (r : Result Ticked CallRefusal) × TicksOn g s r t × (e ≡ tick_event r)
+  Performs g s (Arrive k d) e t = (r : Result ℕ CallRefusal) × Arrives g s k d r t × (e ≡ event_of (Arrive k d) (event.Arrived k d) r)
+  Performs g s (Finish n) e t = (r : Result ℕ CallRefusal) × Finishes s n r t × (e ≡ event_of (Finish n) (event.Finished n) r)
+  Performs g s Tick e t = (r : Result Ticked CallRefusal) × TicksOn g s r t × (e ≡ event_of Tick event.Ticked r)
 
   -- the scheduler's calls and answers since it was made are this history
   abbrev pub Records : Ghosts B → Scheduler B → History → Type 0

@@ -1,13 +1,16 @@
--- The rules of answering: each answer is judged against the history before it, and the rules fix it, refusals with their numbers
--- included.
-use Rattle.std.specs.Prelude.{◌≡◌, ℕ, ◌-◌, ◌<◌, ◌≤◌, Bool, true, false, cond, not, ◌⊎◌, [], ◌∷◌, is_ok, Some, None, Option, ◌==◌, nat_le}
+-- The rules of answering: each answer is judged against the history before it, and the rules fix it, refusals included.
+use Rattle.std.specs.Prelude.{◌≡◌, ℕ, ◌-◌, ◌<◌, ◌≤◌, Bool, true, false, [], ◌∷◌, is_ok, Some, None, Option}
 use Rattle.demand.specs.declared.binder.Binder.{Ghosts}
 use Rattle.demand.specs.Admission.{admission}
-use Rattle.demand.specs.Fields.{from_to}
-use Rattle.scheduler.specs.History.{Call, Event, History, Fate, clock, count, job, units, fate, Cuts, Counts, load}
-use Rattle.scheduler.specs.History.Call.{arrive, finish, tick}
-use Rattle.scheduler.specs.History.Event.{arrived, finished, ticked, refused}
+use Rattle.scheduler.specs.declared.calls.Call.{Call}
+use Rattle.scheduler.specs.declared.calls.Call.TheVariants.{Arrive, Finish, Tick}
+use Rattle.scheduler.specs.declared.calls.CallRefusal.{CallRefusal}
+use Rattle.scheduler.specs.declared.calls.Event.{Event}
+use Rattle.scheduler.specs.declared.calls.Event.TheVariants.{Arrived, Finished, Ticked, Refused}
+use Rattle.scheduler.specs.History.{History, Fate, clock, count, job, units, fate, Cuts, Counts, load}
 use Rattle.scheduler.specs.History.Fate.{pending, done, cut}
+use Rattle.scheduler.specs.Order.{Precedes, FirstOf}
+use Rattle.scheduler.specs.Reasons.{arrive_reason, finish_reason, tick_reason}
 use Rattle.scheduler.specs.Windows.{Free, Spent, Ready, Held, FreeAtJobs}
 
 -- a binder as the rules see it: how many components it has, their bounds and their gains
@@ -28,54 +31,43 @@ is_pending pending = true
 is_pending done = false
 is_pending cut = false
 
--- the refusal of an arrive, a finish and a tick: the first that applies, or none
-abbrev pub arrive_refusal : Plan → History → ℕ → ℕ → Option ℕ
-arrive_refusal p h k d =
-    cond (not (admitted p)) (Some 11)
-    (cond (clock h == 1000000) (Some 14)
-    (cond (nat_le p.parts k) (Some 12)
-    (cond (not (from_to 1 4096 d)) (Some 13)
-    (cond (nat_le 96 (count h)) (Some 15) None))))
+-- the refusal of an arrive, a finish and a tick: the first reason that applies, or none
+abbrev pub arrive_refusal : Plan → History → ℕ → ℕ → Option CallRefusal
+arrive_refusal p h k d = arrive_reason (admitted p) p.parts (clock h) (count h) k d
 
-abbrev pub finish_refusal : Plan → History → ℕ → Option ℕ
-finish_refusal p h n =
-    cond (not (admitted p)) (Some 11)
-    (cond (nat_le (count h) n) (Some 16)
-    (cond (not (is_pending (fate h n))) (Some 17) None))
+abbrev pub finish_refusal : Plan → History → ℕ → Option CallRefusal
+finish_refusal p h n = finish_reason (admitted p) (count h) n (is_pending (fate h n))
 
-abbrev pub tick_refusal : Plan → History → Option ℕ
-tick_refusal p h = cond (not (admitted p)) (Some 11) (cond (clock h == 1000000) (Some 14) None)
+abbrev pub tick_refusal : Plan → History → Option CallRefusal
+tick_refusal p h = tick_reason (admitted p) (clock h)
 
--- job n goes before job m: the one due first, then the lower component, then the lower number
+-- job n goes before job m
 abbrev pub GoesBefore : History → ℕ → ℕ → Type 0
-GoesBefore h n m =
-    ((job h n).due < (job h m).due)
-    ⊎ (((job h n).due ≡ (job h m).due) × (((job h n).component < (job h m).component) ⊎ (((job h n).component ≡ (job h m).component) × (n < m))))
+GoesBefore h n m = Precedes (job h) n m
 
 -- the job that runs is ready and goes before every other one that is; none runs only where none is ready
 abbrev pub RunsFirst : Plan → History → Option ℕ → Type 0
-RunsFirst p h (Some n) = Ready p.bound h n × ((m : ℕ) → Ready p.bound h m → (n ≡ m) ⊎ GoesBefore h n m)
-RunsFirst p h None = (m : ℕ) → Ready p.bound h m → ⊥
+RunsFirst p h ran = FirstOf (job h) (Ready p.bound h) ran
 
 -- the refusal of any call, and the call that an event answers
-abbrev pub refusal_of : Plan → History → Call → Option ℕ
-refusal_of p h (arrive k d) = arrive_refusal p h k d
-refusal_of p h (finish n) = finish_refusal p h n
-refusal_of p h tick = tick_refusal p h
+abbrev pub refusal_of : Plan → History → Call → Option CallRefusal
+refusal_of p h (Arrive k d) = arrive_refusal p h k d
+refusal_of p h (Finish n) = finish_refusal p h n
+refusal_of p h Tick = tick_refusal p h
 
 abbrev pub call_of : Event → Call
-call_of (arrived k d n) = arrive k d
-call_of (finished n u) = finish n
-call_of (ticked ran held cuts) = tick
-call_of (refused c why) = c
+call_of (Arrived k d n) = Arrive k d
+call_of (Finished n u) = Finish n
+call_of (Ticked x) = Tick
+call_of (Refused c why) = c
 
 -- The answer is the one that the rules give after this history. At a tick the open jobs that are due at the clock or earlier are cut
 -- and counted; of those still open the ones without a free unit are held and counted; of the others the first one runs.
 abbrev pub Answers : Plan → Event → History → Type 0
-Answers p (arrived k d n) h = (arrive_refusal p h k d ≡ None) × (n ≡ count h)
-Answers p (finished n u) h = (finish_refusal p h n ≡ None) × (u ≡ units h n)
-Answers p (ticked ran held cuts) h = (tick_refusal p h ≡ None) × RunsFirst p h ran × Counts (Held p.bound h) (count h) held × Counts (Cuts h) (count h) cuts
-Answers p (refused c why) h = refusal_of p h c ≡ Some why
+Answers p (Arrived k d n) h = (arrive_refusal p h k d ≡ None) × (n ≡ count h)
+Answers p (Finished n u) h = (finish_refusal p h n ≡ None) × (u ≡ units h n)
+Answers p (Ticked x) h = (tick_refusal p h ≡ None) × RunsFirst p h x.ran × Counts (Held p.bound h) (count h) x.held × Counts (Cuts h) (count h) x.cut
+Answers p (Refused c why) h = refusal_of p h c ≡ Some why
 
 -- every answer of the history follows the rules
 abbrev pub Follows : Plan → History → Type 0

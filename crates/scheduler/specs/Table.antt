@@ -3,8 +3,7 @@ use Rattle.std.specs.Prelude.{◌≡◌, ℕ, ◌+◌, ◌<◌, ◌≤◌, Bool,
 use Rattle.scheduler.specs.declared.job.Job.{Job as Entry}
 use Rattle.scheduler.specs.declared.job.JobStatus.{JobStatus}
 use Rattle.scheduler.specs.declared.job.JobStatus.TheVariants as status
-use Rattle.demand.specs.Admission.{total}
-use Rattle.scheduler.specs.History.{Job, inside}
+use Rattle.scheduler.specs.History.{Job, load_over}
 use Rattle.scheduler.specs.Windows.{Free}
 
 -- a record without a job
@@ -25,13 +24,11 @@ job_of j = record { component = j.component; arrival = j.arrival; due = j.due }
 abbrev pub job_in : List Entry → ℕ → Job
 job_in js n = job_of (at js n)
 
+abbrev pub arrival_in : List Entry → ℕ → ℕ
+arrival_in js n = (at js n).arrival
+
 abbrev pub used_in : List Entry → ℕ → ℕ
 used_in js n = (at js n).used
-
--- Of so many jobs, by what each is and what it has run: the units that those of the component k that lie in the window have run,
--- those that have ended too.
-unfoldable pub load_over : ℕ → (ℕ → Job) → (ℕ → ℕ) → ℕ → ℕ → ℕ → ℕ
-load_over n job_at run k s e = total n (λ i. cond (inside k s e (job_at i)) (run i) 0)
 
 -- the load of a component in a window, by component, start and end
 abbrev pub table_load : List Entry → ℕ → ℕ → ℕ → ℕ
@@ -72,6 +69,13 @@ Slow now js = (n : ℕ) → n < length js → ((at js n).used + (at js n).arriva
 -- No job arrived before one of a lower number.
 abbrev pub Ascending : List Entry → Type 0
 Ascending js = (m n : ℕ) → m ≤ n → n < length js → (at js m).arrival ≤ (at js n).arrival
+
+-- all of it
+pub record TableKeeps (now : ℕ) (js : List Entry) : Type 0 where
+  pub numbered : Numbered js
+  pub dated : Dated now js
+  pub slow : Slow now js
+  pub ascending : Ascending js
 
 -- what this says of the record of job n
 pub record InRange (now n : ℕ) (j : Entry) : Type 0 where

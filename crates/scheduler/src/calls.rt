@@ -5,7 +5,7 @@ ghost use Rattle.std.proofs.Common.{rules};
 use demand::Refusal;
 
 // A call of a scheduler. Arrive names a component and a deadline, counted in ticks from the arrival; finish names a job.
-#[derive(Clone, Copy)]
+#[derive(Clone, Copy, PartialEq, Eq, Debug)]
 pub enum Call {
     Arrive { component: u32, deadline: u32 },
     Finish { job: usize },
@@ -13,7 +13,7 @@ pub enum Call {
 }
 
 // Why a call is refused.
-#[derive(Clone, Copy)]
+#[derive(Clone, Copy, PartialEq, Eq, Debug)]
 pub enum CallRefusal {
     // the binder was not admitted
     NotAdmitted,
@@ -32,7 +32,7 @@ pub enum CallRefusal {
 }
 
 // What a tick answers: the job that ran, if any, how many open jobs were held back, and how many were cut.
-#[derive(Clone, Copy)]
+#[derive(Clone, Copy, PartialEq, Eq, Debug)]
 pub struct Ticked {
     pub ran: Option<usize>,
     pub held: usize,
@@ -40,7 +40,7 @@ pub struct Ticked {
 }
 
 // A call with its answer.
-#[derive(Clone, Copy)]
+#[derive(Clone, Copy, PartialEq, Eq, Debug)]
 pub enum Event {
     Arrived {
         component: u32,
@@ -51,11 +51,7 @@ pub enum Event {
         job: usize,
         units: u32,
     },
-    Ticked {
-        ran: Option<usize>,
-        held: usize,
-        cut: usize,
-    },
+    Ticked(Ticked),
     Refused {
         call: Call,
         why: CallRefusal,

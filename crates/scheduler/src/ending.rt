@@ -37,8 +37,8 @@ pub(crate) fn cut_all(jobs: &mut [Job], clock: u32) -> usize
     ensures count { Counts (DueIn clock jobs.old) (length jobs.old) result }
 {
     let mut cut = 0;
-    for n in 0..jobs.len() {
-        if cut_if_due(&mut jobs[n], clock) {
+    for job in jobs.iter_mut() {
+        if cut_if_due(job, clock) {
             cut += 1;
         }
     }

@@ -1,5 +1,9 @@
+ghost use Rattle.std.specs.Prelude.{◌≡◌};
+ghost use Rattle.scheduler.specs.Policing.{due_by, overtakes};
+ghost use Rattle.scheduler.specs.Table.{is_open};
+
 // How a job record stands: no job in it yet, open, finished by its component, or cut at its deadline.
-#[derive(Clone, Copy)]
+#[derive(Clone, Copy, PartialEq, Eq, Debug)]
 pub enum JobStatus {
     Empty,
     Open,
@@ -8,7 +12,7 @@ pub enum JobStatus {
 }
 
 // What ends an open job: its component finishes it, or its due tick has come.
-#[derive(Clone, Copy)]
+#[derive(Clone, Copy, PartialEq, Eq, Debug)]
 pub enum Ending {
     Finish,
     Due,
@@ -16,7 +20,7 @@ pub enum Ending {
 
 // One record of the job table. A job is numbered in the order of acceptance, arrives at a tick and is due at a later one, and has
 // used so many units of core time.
-#[derive(Clone, Copy)]
+#[derive(Clone, Copy, PartialEq, Eq, Debug)]
 pub struct Job {
     pub number: usize,
     pub component: u32,
@@ -35,3 +39,25 @@ pub const EMPTY: Job = Job {
     used: 0,
     status: JobStatus::Empty,
 };
+
+impl Job {
+    pub(crate) fn is_open(&self) -> bool
+        ensures { result ≡ is_open self.now.status }
+    {
+        self.status == JobStatus::Open
+    }
+
+    // Whether the job is one of the component of `last` and due by its due tick.
+    pub(crate) fn is_due_by(&self, last: &Job) -> bool
+        ensures { result ≡ due_by last.now.component last.now.due self.now }
+    {
+        self.component == last.component && self.due <= last.due
+    }
+
+    // Whether the job goes before one of a lower number.
+    pub(crate) fn overtakes(&self, lower: &Job) -> bool
+        ensures { result ≡ overtakes self.now lower.now }
+    {
+        (self.due, self.component) < (lower.due, lower.component)
+    }
+}

@@ -16,6 +16,7 @@ mod policing;
 mod running;
 mod scheduler;
 mod table;
+mod window;
 
 pub use calls::{Call, CallRefusal, Event, Ticked};
 pub use job::{EMPTY, Job, JobStatus};

@@ -1,100 +1,82 @@
-ghost use Rattle.std.specs.Prelude.{◌≡◌, ℕ, ◌<◌, ◌≤◌, length, IfSome, Decides};
-ghost use Rattle.scheduler.specs.Policing.{due_by, Proper, SpentFrom, LeastOf, OpenBy, Starts, Known, StartsBy, Between};
-ghost use Rattle.scheduler.specs.Table.{is_open};
+ghost use Rattle.std.specs.Prelude.{◌≡◌, ℕ, ◌<◌, ◌≤◌, length, slice_index_or, None, Decides};
+ghost use Rattle.scheduler.specs.Policing.{Proper, SpentFrom, EarliestOf, OpenBy, FirstSpent, HeldBy};
+ghost use Rattle.scheduler.specs.Table.{at, arrival_in, Ascending};
 
-use crate::job::{Job, JobStatus};
+use crate::job::Job;
+use crate::table::MOST_JOBS;
+use crate::window::Window;
 use demand::Binder;
 
-// Whether the job is one of the component and due by `end`.
-fn is_due_by(job: &Job, component: u32, end: u32) -> bool
-    ensures { result ≡ due_by component end job.now }
-{
-    job.component == component && job.due <= end
+// The jobs of a table by their numbers: each is due after its arrival, and none arrived before one of a lower number.
+#[derive(Clone, Copy)]
+pub(crate) struct Roster<'a> {
+    pub(crate) jobs: &'a [Job],
+    ghost few: { length jobs.now ≤ 96 },
+    ghost proper: { Proper jobs.now },
+    ghost ascending: { Ascending jobs.now },
 }
 
-// The first job from whose arrival to `end` the component has spent its bound. Jobs are numbered in the order of their
-// arrivals, so going back from the last one, the units of each window are those of the one before and the job's own.
-fn first_spent_start<B: Binder>(binder: &B, jobs: &[Job], component: u32, end: u32) -> Option<usize>
-    requires { (length jobs.now ≤ 96) × (Proper jobs.now) }
-    ensures { LeastOf (SpentFrom (B.Binder.bound binder.now) jobs.now component end) result }
-{
-    let mut units = 0u64;
-    let mut first = None;
-    for i in (0..jobs.len()).rev() {
-        let job = &jobs[i];
-        if is_due_by(job, component, end) {
-            units += job.used as u64;
-            if binder.bound(component, end - job.arrival) <= units {
-                first = Some(i);
+impl Roster<'_> {
+    // Whether some open job of the component of `last` is due by its due tick.
+    fn has_open_by(&self, last: &Job) -> bool
+        ensures { Decides result (OpenBy self.now.jobs.now last.now.component last.now.due) }
+    {
+        self.jobs
+            .iter()
+            .any(|job| job.is_open() && job.is_due_by(last))
+    }
+
+    // The arrival of the first job from which to the due tick of `last` their component has spent its bound. Jobs are numbered in
+    // the order of their arrivals, so going back from the last one, the units of each window are those of the one before and the
+    // job's own.
+    fn first_spent_start<B: Binder>(&self, binder: &B, last: &Job) -> Option<u32>
+        ensures { EarliestOf (SpentFrom (B.Binder.bound binder.now) self.now.jobs.now last.now.component last.now.due) (arrival_in self.now.jobs.now) result }
+    {
+        let mut units = 0u64;
+        let mut start = None;
+        for job in self.jobs.iter().rev() {
+            if job.is_due_by(last) {
+                units += u64::from(job.used);
+                if binder.bound(last.component, last.due - job.arrival) <= units {
+                    start = Some(job.arrival);
+                }
             }
         }
+        start
     }
-    first
-}
 
-pub(crate) fn is_open(job: &Job) -> bool
-    ensures { result ≡ is_open job.now.status }
-{
-    match job.status {
-        JobStatus::Open => true,
-        JobStatus::Empty | JobStatus::Finished | JobStatus::Cut => false,
-    }
-}
-
-// Whether some open job of the component is due by `end`.
-fn has_open_by(jobs: &[Job], component: u32, end: u32) -> bool
-    ensures { Decides result (OpenBy jobs.now component end) }
-{
-    for job in jobs {
-        if is_open(job) && is_due_by(job, component, end) {
-            return true;
+    // Where an open job of the component of `last` is due by its due tick: the spent window up to there that begins first.
+    fn spent_window<B: Binder>(&self, binder: &B, last: &Job) -> Option<Window>
+        ensures { FirstSpent (B.Binder.bound binder.now) self.now.jobs.now last.now result }
+    {
+        if !self.has_open_by(last) {
+            return None;
         }
+        let start = self.first_spent_start(binder, last)?;
+        Some(Window {
+            component: last.component,
+            start,
+            end: last.due,
+        })
     }
-    false
-}
 
-// At each job's due tick as an end, where an open job of its component is due by then: the first job from whose arrival on the
-// bound is spent.
-pub(crate) fn spent_starts<B: Binder>(binder: &B, jobs: &[Job]) -> [Option<usize>; 96]
-    requires { (length jobs.now ≤ 96) × (Proper jobs.now) }
-    ensures starts { Starts (B.Binder.bound binder.now) jobs.now result }
-    ensures known { Known jobs.now result }
-{
-    let mut starts = [None; 96];
-    for b in 0..jobs.len() {
-        let last = &jobs[b];
-        if has_open_by(jobs, last.component, last.due) {
-            starts[b] = first_spent_start(binder, jobs, last.component, last.due);
+    // The spent windows that end where a job is due, by the number of that job. A tick takes no memory, so they are an array.
+    pub(crate) fn spent_windows<B: Binder>(&self, binder: &B) -> [Option<Window>; MOST_JOBS]
+        ensures { (b : ℕ) → b < length self.now.jobs.now → FirstSpent (B.Binder.bound binder.now) self.now.jobs.now (at self.now.jobs.now b) (slice_index_or result b None) }
+    {
+        let mut windows = [None; MOST_JOBS];
+        for (b, last) in self.jobs.iter().enumerate() {
+            windows[b] = self.spent_window(binder, last);
         }
-    }
-    starts
-}
-
-// Whether there is a start, and it arrived by the tick.
-fn starts_by(jobs: &[Job], start: Option<usize>, tick: u32) -> bool
-    requires { IfSome start (λ i. i < length jobs.now) }
-    ensures { Decides result (StartsBy jobs.now start tick) }
-{
-    match start {
-        Some(i) => jobs[i].arrival <= tick,
-        None => false,
+        windows
     }
 }
 
-// Whether job n lies in a window that its component has spent, which begins at one of the starts.
-pub(crate) fn is_held(jobs: &[Job], starts: &[Option<usize>; 96], n: usize) -> bool
-    requires { (length jobs.now ≤ 96) × ((n < length jobs.now) × (Known jobs.now starts.now)) }
-    ensures { Decides result ((b : ℕ) × Between jobs.now starts.now n b) }
+// Whether the job lies in one of the windows of its component.
+pub(crate) fn is_held(windows: &[Option<Window>], job: &Job) -> bool
+    ensures { Decides result (HeldBy windows.now job.now) }
 {
-    let job = &jobs[n];
-    for b in 0..jobs.len() {
-        let last = &jobs[b];
-        if last.component == job.component
-            && job.due <= last.due
-            && starts_by(jobs, starts[b], job.arrival)
-        {
-            return true;
-        }
-    }
-    false
+    windows
+        .iter()
+        .any(|window| window.is_some_and(|window| window.holds(job)))
 }

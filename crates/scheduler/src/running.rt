@@ -1,7 +1,6 @@
 ghost use Rattle.std.specs.Prelude.{◌≡◌, map, reverse, IfOk};
 ghost use Rattle.scheduler.specs.History.{History};
 ghost use Rattle.scheduler.specs.Needs.{NeedsMet};
-ghost use Rattle.scheduler.specs.Numbers.{recorded_call, recorded_event, history_of};
 ghost use Rattle.scheduler.specs.Rules.{plan_of, call_of, Follows, Certified};
 
 use crate::calls::{Call, Event};
@@ -17,11 +16,11 @@ pub fn run<B: Binder + Drop>(
     binder: B,
     calls: &[Call],
 ) -> Result<Vec<Event>, AllocError>
-    ensures each_call_answered { IfOk result (λ es. map call_of (map recorded_event es.items) ≡ map recorded_call calls.now) }
-    ensures by_the_rules { IfOk result (λ es. Follows (plan_of B.Binder binder) (history_of es.items)) }
-    ensures no_other_answers { IfOk result (λ es. (h : History) → map call_of (reverse h) ≡ map recorded_call calls.now → Follows (plan_of B.Binder binder) h → h ≡ history_of es.items) }
-    ensures certified { IfOk result (λ es. Certified (B.Binder.bound binder) (history_of es.items)) }
-    ensures needs_met { IfOk result (λ es. NeedsMet (B.Binder.bound binder) (history_of es.items)) }
+    ensures each_call_answered { IfOk result (λ es. map call_of es.items ≡ calls.now) }
+    ensures by_the_rules { IfOk result (λ es. Follows (plan_of B.Binder binder) (reverse es.items)) }
+    ensures no_other_answers { IfOk result (λ es. (h : History) → map call_of (reverse h) ≡ calls.now → Follows (plan_of B.Binder binder) h → h ≡ reverse es.items) }
+    ensures certified { IfOk result (λ es. Certified (B.Binder.bound binder) (reverse es.items)) }
+    ensures needs_met { IfOk result (λ es. NeedsMet (B.Binder.bound binder) (reverse es.items)) }
 {
     let mut scheduler = Scheduler::new(binder);
     let mut events = Vec::new(heap);

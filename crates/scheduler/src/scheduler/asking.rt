@@ -1,18 +1,19 @@
 ghost use Rattle.std.specs.Prelude.{◌≡◌, ◌<◌, ◌≤◌, length, IfSome};
+ghost use Rattle.demand.specs.Verdicts.{verdict_numbers};
 ghost use Rattle.scheduler.specs.History.{History};
 ghost use Rattle.scheduler.specs.Records.{jobs_of, Records};
 ghost use Rattle.scheduler.specs.Table.{job_record, InRange};
 
 use crate::job::Job;
 use crate::scheduler::Scheduler;
-use demand::Binder;
+use demand::{Binder, verdict_numbers};
 
 impl<B: Binder> Scheduler<B> {
     // The admission test's verdict on the binder: a number and a length, (0, 0) for admitted.
     pub fn verdict(&self) -> (u32, u32)
-        ensures { result ≡ self.now.verdict }
+        ensures { result ≡ verdict_numbers self.now.verdict }
     {
-        self.verdict
+        verdict_numbers(self.verdict)
     }
 
     // How many ticks were accepted.
@@ -37,7 +38,6 @@ impl<B: Binder> Scheduler<B> {
         ensures in_range { IfSome result (InRange self.now.clock n) }
         ensures known_component { (h : History) → Records B.Binder self.now h → IfSome result (λ j. j.component < B.Binder.count self.now.binder) }
     {
-        let jobs = self.table.records();
-        if n < jobs.len() { Some(jobs[n]) } else { None }
+        self.table.records().get(n).copied()
     }
 }

@@ -1,34 +1,34 @@
 ghost use Rattle.std.specs.Prelude.{◌≡◌, [], ◌∷◌, replicate, Err};
 ghost use Rattle.demand.specs.Admission.{admission};
-ghost use Rattle.demand.specs.Verdicts.{verdict_numbers};
 ghost use Rattle.scheduler.specs.History.{History};
 ghost use Rattle.scheduler.specs.Needs.{NeedsMetBy};
-ghost use Rattle.scheduler.specs.Numbers.{recorded_call, recorded_event};
 ghost use Rattle.scheduler.specs.Records.{jobs_of, SameBinder, Arrives, Finishes, TicksOn, Performs, Records, CertifiedBy};
-ghost use Rattle.scheduler.specs.Recording.{arrive_event, finish_event, tick_event};
+ghost use Rattle.scheduler.specs.Recording.{event_of};
 ghost use Rattle.scheduler.specs.Rules.{call_of};
 ghost use Rattle.scheduler.specs.Table.{empty_entry};
 ghost use Rattle.scheduler.specs.declared.calls.CallRefusal.{CallRefusal};
-ghost use Rattle.scheduler.specs.declared.calls.Event.TheVariants.{Refused};
+ghost use Rattle.scheduler.specs.declared.calls.Call.TheVariants.{Arrive, Finish, Tick};
+ghost use Rattle.scheduler.specs.declared.calls.Event.TheVariants.{Arrived, Finished, Refused};
+ghost use Rattle.scheduler.specs.declared.calls.Event.TheVariants as event;
 
 use crate::calls::{Call, CallRefusal, Event, Ticked};
-use crate::dispatch::survey;
 use crate::job::{Ending, Job, JobStatus};
+use crate::policing::Roster;
 use crate::scheduler::Scheduler;
 use crate::table::JobTable;
-use demand::{Binder, admission_test};
+use demand::{Binder, admit};
 
 impl<B: Binder> Scheduler<B> {
     // A scheduler over the binder before any call, with the admission test's verdict.
     pub fn new(binder: B) -> Scheduler<B>
         ensures same_binder { result.binder ≡ binder }
-        ensures verdict { result.verdict ≡ verdict_numbers (admission (B.Binder.count binder) (B.Binder.bound binder) (B.Binder.gain binder)) }
+        ensures verdict { result.verdict ≡ admission (B.Binder.count binder) (B.Binder.bound binder) (B.Binder.gain binder) }
         ensures clock { result.clock ≡ 0 }
         ensures no_job { jobs_of result ≡ [] }
         ensures all_empty { result.table.jobs ≡ replicate 96 empty_entry }
         ensures recorded { Records B.Binder result [] }
     {
-        let verdict = admission_test(&binder);
+        let verdict = admit(&binder);
         Scheduler {
             binder,
             verdict,
@@ -42,12 +42,10 @@ impl<B: Binder> Scheduler<B> {
         ensures step { Arrives B.Binder self.old component deadline result self.new }
         ensures same_binder { SameBinder self.old self.new }
         ensures refused_changes_nothing { (e : CallRefusal) → result ≡ Err e → self.new ≡ self.old }
-        ensures recorded { (h : History) → Records B.Binder self.old h → Records B.Binder self.new (recorded_event (arrive_event component deadline result) ∷ h) }
+        ensures recorded { (h : History) → Records B.Binder self.old h → Records B.Binder self.new (event_of (Arrive component deadline) (Arrived component deadline) result ∷ h) }
         ensures certified { CertifiedBy B.Binder self.new }
     {
-        if let Some(why) = self.arrive_refusal(component, deadline) {
-            return Err(why);
-        }
+        self.judge_arrive(component, deadline)?;
         let number = self.table.count;
         self.table.add(Job {
             number,
@@ -65,12 +63,10 @@ impl<B: Binder> Scheduler<B> {
         ensures step { Finishes self.old job result self.new }
         ensures same_binder { SameBinder self.old self.new }
         ensures refused_changes_nothing { (e : CallRefusal) → result ≡ Err e → self.new ≡ self.old }
-        ensures recorded { (h : History) → Records B.Binder self.old h → Records B.Binder self.new (recorded_event (finish_event job result) ∷ h) }
+        ensures recorded { (h : History) → Records B.Binder self.old h → Records B.Binder self.new (event_of (Finish job) (Finished job) result ∷ h) }
         ensures certified { CertifiedBy B.Binder self.new }
     {
-        if let Some(why) = self.finish_refusal(job) {
-            return Err(why);
-        }
+        self.judge_finish(job)?;
         self.table.end(job, Ending::Finish)
     }
 
@@ -80,15 +76,16 @@ impl<B: Binder> Scheduler<B> {
         ensures step { TicksOn B.Binder self.old result self.new }
         ensures same_binder { SameBinder self.old self.new }
         ensures refused_changes_nothing { (e : CallRefusal) → result ≡ Err e → self.new ≡ self.old }
-        ensures recorded { (h : History) → Records B.Binder self.old h → Records B.Binder self.new (recorded_event (tick_event result) ∷ h) }
+        ensures recorded { (h : History) → Records B.Binder self.old h → Records B.Binder self.new (event_of Tick event.Ticked result ∷ h) }
         ensures certified { CertifiedBy B.Binder self.new }
         ensures needs_met { NeedsMetBy B.Binder self.new }
     {
-        if let Some(why) = self.tick_refusal() {
-            return Err(why);
-        }
+        self.judge_tick()?;
         let cut = self.table.cut_due(self.clock);
-        let choice = survey(&self.binder, self.table.records());
+        let roster = Roster {
+            jobs: self.table.records(),
+        };
+        let choice = roster.survey(&self.binder);
         self.table.run(choice.first);
         self.clock += 1;
         Ok(Ticked {
@@ -100,67 +97,30 @@ impl<B: Binder> Scheduler<B> {
 
     // Any of the three calls, with its answer.
     pub fn perform(&mut self, call: Call) -> Event
-        ensures answers_the_call { call_of (recorded_event result) ≡ recorded_call call }
+        ensures answers_the_call { call_of result ≡ call }
         ensures step { Performs B.Binder self.old call result self.new }
         ensures same_binder { SameBinder self.old self.new }
         ensures refused_changes_nothing { (e : CallRefusal) → result ≡ Refused call e → self.new ≡ self.old }
-        ensures recorded { (h : History) → Records B.Binder self.old h → Records B.Binder self.new (recorded_event result ∷ h) }
+        ensures recorded { (h : History) → Records B.Binder self.old h → Records B.Binder self.new (result ∷ h) }
         ensures certified { CertifiedBy B.Binder self.new }
     {
+        let refused = |why| Event::Refused { call, why };
         match call {
             Call::Arrive {
                 component,
                 deadline,
-            } => arrive_event(component, deadline, self.arrive(component, deadline)),
-            Call::Finish { job } => finish_event(job, self.finish(job)),
-            Call::Tick => tick_event(self.tick()),
+            } => self.arrive(component, deadline).map_or_else(
+                refused,
+                |job| Event::Arrived {
+                    component,
+                    deadline,
+                    job,
+                },
+            ),
+            Call::Finish { job } => self
+                .finish(job)
+                .map_or_else(refused, |units| Event::Finished { job, units }),
+            Call::Tick => self.tick().map_or_else(refused, Event::Ticked),
         }
-    }
-}
-
-fn arrive_event(component: u32, deadline: u32, answer: Result<usize, CallRefusal>) -> Event
-    ensures { result ≡ arrive_event component deadline answer }
-{
-    match answer {
-        Ok(job) => Event::Arrived {
-            component,
-            deadline,
-            job,
-        },
-        Err(why) => Event::Refused {
-            call: Call::Arrive {
-                component,
-                deadline,
-            },
-            why,
-        },
-    }
-}
-
-fn finish_event(job: usize, answer: Result<u32, CallRefusal>) -> Event
-    ensures { result ≡ finish_event job answer }
-{
-    match answer {
-        Ok(units) => Event::Finished { job, units },
-        Err(why) => Event::Refused {
-            call: Call::Finish { job },
-            why,
-        },
-    }
-}
-
-fn tick_event(answer: Result<Ticked, CallRefusal>) -> Event
-    ensures { result ≡ tick_event answer }
-{
-    match answer {
-        Ok(ticked) => Event::Ticked {
-            ran: ticked.ran,
-            held: ticked.held,
-            cut: ticked.cut,
-        },
-        Err(why) => Event::Refused {
-            call: Call::Tick,
-            why,
-        },
     }
 }

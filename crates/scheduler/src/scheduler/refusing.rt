@@ -1,57 +1,60 @@
 ghost use Rattle.std.specs.Prelude.{◌≡◌};
 ghost use Rattle.scheduler.specs.Records.{arrive_refused, finish_refused, tick_refused};
+ghost use Rattle.scheduler.specs.Steps.{unless};
 
 use crate::calls::CallRefusal;
-use crate::policing::is_open;
 use crate::scheduler::Scheduler;
 use demand::Binder;
 
+// The last tick that the clock shows, and the most ticks from an arrival to its due tick.
+const CLOCK_END: u32 = 1_000_000;
+
+const LONGEST_DEADLINE: u32 = 4096;
+
 impl<B: Binder> Scheduler<B> {
-    // Why an arrive is refused, if it is.
-    pub(crate) fn arrive_refusal(&self, component: u32, deadline: u32) -> Option<CallRefusal>
-        ensures { result ≡ arrive_refused B.Binder self.now component deadline }
+    // Refuses an arrive that the rules refuse.
+    pub(crate) fn judge_arrive(&self, component: u32, deadline: u32) -> Result<(), CallRefusal>
+        ensures { result ≡ unless (arrive_refused B.Binder self.now component deadline) tt }
     {
-        if self.verdict.0 != 0 {
-            Some(CallRefusal::NotAdmitted)
-        } else if self.clock == 1000000 {
-            Some(CallRefusal::ClockEnded)
+        if self.verdict.is_err() {
+            Err(CallRefusal::NotAdmitted)
+        } else if self.clock == CLOCK_END {
+            Err(CallRefusal::ClockEnded)
         } else if component >= self.binder.count() {
-            Some(CallRefusal::NoComponent)
-        } else if deadline < 1 || deadline > 4096 {
-            Some(CallRefusal::DeadlineOutOfRange)
-        } else if self.table.count >= 96 {
-            Some(CallRefusal::TableFull)
+            Err(CallRefusal::NoComponent)
+        } else if !(1..=LONGEST_DEADLINE).contains(&deadline) {
+            Err(CallRefusal::DeadlineOutOfRange)
+        } else if self.table.is_full() {
+            Err(CallRefusal::TableFull)
         } else {
-            None
+            Ok(())
         }
     }
 
-    // Why a finish is refused, if it is.
-    pub(crate) fn finish_refusal(&self, job: usize) -> Option<CallRefusal>
-        ensures { result ≡ finish_refused self.now job }
+    // Refuses a finish that the rules refuse.
+    pub(crate) fn judge_finish(&self, job: usize) -> Result<(), CallRefusal>
+        ensures { result ≡ unless (finish_refused self.now job) tt }
     {
-        let jobs = self.table.records();
-        if self.verdict.0 != 0 {
-            Some(CallRefusal::NotAdmitted)
-        } else if job >= jobs.len() {
-            Some(CallRefusal::NoJob)
-        } else if !is_open(&jobs[job]) {
-            Some(CallRefusal::NotOpen)
-        } else {
-            None
+        if self.verdict.is_err() {
+            return Err(CallRefusal::NotAdmitted);
+        }
+        match self.table.records().get(job) {
+            None => Err(CallRefusal::NoJob),
+            Some(job) if !job.is_open() => Err(CallRefusal::NotOpen),
+            Some(_) => Ok(()),
         }
     }
 
-    // Why a tick is refused, if it is.
-    pub(crate) fn tick_refusal(&self) -> Option<CallRefusal>
-        ensures { result ≡ tick_refused self.now }
+    // Refuses a tick that the rules refuse.
+    pub(crate) fn judge_tick(&self) -> Result<(), CallRefusal>
+        ensures { result ≡ unless (tick_refused self.now) tt }
     {
-        if self.verdict.0 != 0 {
-            Some(CallRefusal::NotAdmitted)
-        } else if self.clock == 1000000 {
-            Some(CallRefusal::ClockEnded)
+        if self.verdict.is_err() {
+            Err(CallRefusal::NotAdmitted)
+        } else if self.clock == CLOCK_END {
+            Err(CallRefusal::ClockEnded)
         } else {
-            None
+            Ok(())
         }
     }
 }

@@ -1,4 +1,4 @@
-ghost use Rattle.std.specs.Prelude.{◌≡◌, ◌+◌, ◌-◌, ◌^◌, ◌<◌, [], ◌∷◌, ◌++◌, length, replicate, IfSome, slice_set};
+ghost use Rattle.std.specs.Prelude.{◌≡◌, ◌+◌, ◌-◌, ◌^◌, ◌<◌, [], ◌∷◌, ◌++◌, length, replicate, nat_le, IfSome, slice_set};
 ghost use Rattle.scheduler.specs.History.{Counts};
 ghost use Rattle.scheduler.specs.Steps.{records, ended, ending_answer, cut_due, DueIn, with_used, with_unit};
 ghost use Rattle.scheduler.specs.Table.{at, empty_entry};
@@ -6,7 +6,7 @@ ghost use Rattle.scheduler.specs.Table.{at, empty_entry};
 use crate::calls::CallRefusal;
 use crate::ending::{cut_all, end_job};
 use crate::job::{EMPTY, Ending, Job};
-use crate::table::JobTable;
+use crate::table::{JobTable, MOST_JOBS};
 
 impl JobTable {
     // The table without a job, every record marked empty.
@@ -15,7 +15,7 @@ impl JobTable {
         ensures all_empty { result.jobs ≡ replicate 96 empty_entry }
     {
         JobTable {
-            jobs: [EMPTY; 96],
+            jobs: [EMPTY; MOST_JOBS],
             count: 0,
         }
     }
@@ -26,6 +26,13 @@ impl JobTable {
         ensures len { length result.now ≡ self.now.count }
     {
         &self.jobs[0..self.count]
+    }
+
+    // Whether there is no room for a job more.
+    pub(crate) fn is_full(&self) -> bool
+        ensures { result ≡ nat_le 96 (length (records self.now)) }
+    {
+        self.count == MOST_JOBS
     }
 
     // One job more.

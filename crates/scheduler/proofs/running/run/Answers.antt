@@ -1,39 +1,9 @@
-use Rattle.std.proofs.Common.{◌≡◌, List, [], ◌∷◌, ◌++◌, map, reverse, take, vec_items, get_or, sym, ap, ◌∙◌, subst}
-use Rattle.std.proofs.lemmas.List.{take_more, take_all, map_push, reverse-append}
-use Rattle.scheduler.specs.declared.calls.Call.TheVariants.{Arrive}
-use Rattle.scheduler.specs.declared.calls.Event.{Event as EventSeen}
-use Rattle.scheduler.specs.History.{Call}
-use Rattle.scheduler.specs.Numbers.{recorded_call, recorded_event, history_of}
-use Rattle.scheduler.specs.Rules.{plan_of, call_of, Follows}
-use Rattle.scheduler.specs.Records.{Records}
+use Rattle.std.proofs.Common.{reverse, vec_items, sym, ◌∙◌, subst}
+use Rattle.std.proofs.lemmas.List.{take_all}
+use Rattle.scheduler.specs.Rules.{plan_of, Follows}
 use Rattle.scheduler.proofs.Certificate.{certified, no_other_answers}
 use Rattle.scheduler.proofs.Needed.{needs_met}
 use Rattle.scheduler.proofs.running.run.Goals as goal
-
--- one event more
-module _ (old : List EventSeen) (event : EventSeen) where
-  history_push : history_of (old ++ (event ∷ [])) ≡ recorded_event event ∷ history_of old
-  history_push = ap reverse (map_push recorded_event old event) ∙ reverse-append (map recorded_event old) (recorded_event event ∷ [])
-
-  calls_push : map call_of (map recorded_event (old ++ (event ∷ []))) ≡ map call_of (map recorded_event old) ++ (call_of (recorded_event event) ∷ [])
-  calls_push = ap (map call_of) (map_push recorded_event old event) ∙ map_push call_of (map recorded_event old) (recorded_event event)
-
-pub loop-call-preserved : goal.loop-call-preserved
-loop-call-preserved g c =
-    let old = vec_items c.loop-call.events in
-    let calls = c.args.calls.now in
-    let event = c.perform-event.result in
-    let s = c.perform-event.new.self in
-    let i = c.loop-call.call-index in
-    let pushed : vec_items c.push.new.self ≡ old ++ (event ∷ []) = c.in_ok-push.ensures.items in (
-      c.perform-event.ensures.same_binder.binder_kept ∙ c.loop-call.invariant.0,
-      subst (Records g.B.Binder s) (sym (ap history_of pushed ∙ history_push old event)) (c.perform-event.ensures.recorded (history_of old) c.loop-call.invariant.1),
-      ap (λ (es : List EventSeen). map call_of (map recorded_event es)) pushed ∙ calls_push old event
-          ∙ ap (λ (xs : List Call). xs ++ (call_of (recorded_event event) ∷ [])) c.loop-call.invariant.2
-          ∙ ap (λ (x : Call). map recorded_call (take i calls) ++ (x ∷ [])) c.perform-event.ensures.answers_the_call
-          ∙ sym (map_push recorded_call (take i calls) (get_or calls i (Arrive 0 0)))
-          ∙ ap (map recorded_call) (sym (take_more calls i (Arrive 0 0) c.loop-call-test.true)),
-    )
 
 pub returns : goal.returns
 returns g c =
@@ -43,12 +13,12 @@ returns g c =
     let p = plan_of g.B.Binder x in
     let climbs = g.met.B.Binder.climbs x in
     let repeats = g.met.B.Binder.repeats x in
-    let answered = c.loop-call.invariant.2 ∙ ap (map recorded_call) (take_all c.loop-call.call-index c.args.calls.now c.loop-call-test.false) in
-    let follows : Follows p (history_of events) = subst (λ b. Follows (plan_of g.B.Binder b) (history_of events)) made_of c.loop-call.invariant.1.follows in
+    let answered = c.loop-call.invariant.2 ∙ take_all c.loop-call.call-index c.args.calls.now c.loop-call-test.false in
+    let follows : Follows p (reverse events) = subst (λ b. Follows (plan_of g.B.Binder b) (reverse events)) made_of c.loop-call.invariant.1.follows in
     record {
       each_call_answered = answered;
       by_the_rules = follows;
-      no_other_answers = λ h same f. no_other_answers p h (map recorded_event events) (same ∙ sym answered) f follows;
-      certified = certified p climbs repeats (history_of events) follows;
-      needs_met = needs_met p.bound (history_of events) (certified p climbs repeats (history_of events) follows);
+      no_other_answers = λ h same f. no_other_answers p h events (same ∙ sym answered) f follows;
+      certified = certified p climbs repeats (reverse events) follows;
+      needs_met = needs_met p.bound (reverse events) (certified p climbs repeats (reverse events) follows);
     }

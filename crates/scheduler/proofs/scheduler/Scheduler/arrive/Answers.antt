@@ -1,28 +1,17 @@
-use Rattle.std.proofs.Common.{◌≡◌, ℕ, length, Ok, Err, sym, refl, ap, ◌∙◌, subst, arith, length-take-le}
+use Rattle.std.proofs.Common.{◌≡◌, ℕ, length, is_ok, Ok, sym, ap, ◌∙◌, subst, arith, length-take-le}
 use Rattle.scheduler.specs.Steps.{unless, records}
-use Rattle.scheduler.specs.Table.{Numbered, Dated, Slow, Ascending}
-use Rattle.scheduler.specs.Recording.{is_admitted}
+use Rattle.scheduler.specs.Table.{TableKeeps}
 use Rattle.scheduler.specs.Records.{jobs_of}
 use Rattle.scheduler.specs.Rules.{plan_of}
 use Rattle.scheduler.proofs.Certificate.{arrive_accepted, certified}
-use Rattle.scheduler.proofs.Keeping.{numbered_push, dated_push, slow_push, ascending_push}
-use Rattle.scheduler.proofs.Stepping.{arrive_recorded}
+use Rattle.scheduler.proofs.Keeping.{kept_push}
+use Rattle.scheduler.proofs.Stepping.{unless_ok, arrive_recorded}
 use Rattle.scheduler.proofs.scheduler.Scheduler.arrive.Goals as goal
 
-pub returns-in-Some : goal.returns-in-Some
-returns-in-Some g c =
+pub returns-in_err-judge_arrive-clause-certified : goal.returns-in_err-judge_arrive-clause-certified
+returns-in_err-judge_arrive-clause-certified g c =
     let s = c.args.self.now in
-    let p = plan_of g.B.Binder s.binder in
-    let climbs = g.met.B.Binder.climbs s.binder in
-    let repeats = g.met.B.Binder.repeats s.binder in
-    let refused = ap (λ o. unless o (length (jobs_of s))) (sym c.in-Some.is ∙ c.arrive_refusal.ensures) in
-    record {
-      step = record { answers = refused; table = refl; clock_stands = refl };
-      same_binder = record { binder_kept = refl; verdict_kept = refl };
-      refused_changes_nothing = λ e q. refl;
-      recorded = λ h r. arrive_recorded p climbs repeats s.verdict s.clock (jobs_of s) h r c.args.component c.args.deadline (Err c.in-Some.why) (jobs_of s) refused refl;
-      certified = λ h r. certified p climbs repeats h r.follows;
-    }
+    λ h r. certified (plan_of g.B.Binder s.binder) (g.met.B.Binder.climbs s.binder) (g.met.B.Binder.repeats s.binder) h r.follows
 
 pub invariant_of-self : goal.invariant_of-self
 invariant_of-self g c =
@@ -31,28 +20,23 @@ invariant_of-self g c =
     let k = c.args.component in
     let d = c.args.deadline in
     let n = s.table.count in
-    let w = arrive_accepted (is_admitted s.verdict) (g.B.Binder.count s.binder) now (length (jobs_of s)) k d (sym c.in_default.ensures) in
+    let w = arrive_accepted (is_ok s.verdict) (g.B.Binder.count s.binder) now (length (jobs_of s)) k d (unless_ok _ tt _ c.in_ok-judge_arrive.ensures).0 in
     record {
       early = s.early;
-      numbered = subst Numbered (sym c.add.ensures) (numbered_push now (jobs_of s) n k d w.2 w.3 (sym (length-take-le n s.table.jobs (omega (arith, s.table.few, s.table.slots)))) s.numbered);
-      dated = subst (Dated now) (sym c.add.ensures) (dated_push now (jobs_of s) n k d w.2 w.3 s.dated);
-      slow = subst (Slow now) (sym c.add.ensures) (slow_push now (jobs_of s) n k d w.2 w.3 s.slow);
-      ascending = subst Ascending (sym c.add.ensures) (ascending_push now (jobs_of s) n k d w.2 w.3 s.dated s.ascending);
+      kept = subst (TableKeeps now) (sym c.add.ensures) (kept_push now (jobs_of s) n k d w.2 w.3 (sym (length-take-le n s.table.jobs (omega (arith, s.table.few, s.table.slots)))) s.kept);
     }
 
-pub returns : goal.returns
-returns g c =
+pub returns-clause-recorded : goal.returns-clause-recorded
+returns-clause-recorded g c =
     let s = c.args.self.now in
-    let p = plan_of g.B.Binder s.binder in
-    let climbs = g.met.B.Binder.climbs s.binder in
-    let repeats = g.met.B.Binder.repeats s.binder in
     let n = s.table.count in
     let count_is : length (jobs_of s) ≡ n = length-take-le n s.table.jobs (omega (arith, s.table.few, s.table.slots)) in
-    let accepted = ap (λ (m : ℕ). Ok m) (sym count_is) ∙ ap (λ o. unless o (length (jobs_of s))) c.in_default.ensures in
-    record {
-      step = record { answers = accepted; table = c.add.ensures; clock_stands = refl };
-      same_binder = record { binder_kept = refl; verdict_kept = refl };
-      refused_changes_nothing = λ e q. let z : ◌≡◌ {A = ℕ} 0 1 = cc in absurd (omega arith);
-      recorded = λ h r. arrive_recorded p climbs repeats s.verdict s.clock (jobs_of s) h r c.args.component c.args.deadline (Ok n) (records c.add.new.self) accepted c.add.ensures;
-      certified = λ h r. certified p climbs repeats h r.follows;
-    }
+    let accepted = ap (λ (m : ℕ). Ok m) (sym count_is) ∙ ap (λ o. unless o (length (jobs_of s))) (sym (unless_ok _ tt _ c.in_ok-judge_arrive.ensures).0) in
+    λ h r.
+    arrive_recorded (plan_of g.B.Binder s.binder) (g.met.B.Binder.climbs s.binder) (g.met.B.Binder.repeats s.binder) s.verdict s.clock (jobs_of s) h r c.args.component c.args.deadline (Ok n)
+    (records c.add.new.self) accepted c.add.ensures
+
+pub returns-clause-certified : goal.returns-clause-certified
+returns-clause-certified g c =
+    let s = c.args.self.now in
+    λ h r. certified (plan_of g.B.Binder s.binder) (g.met.B.Binder.climbs s.binder) (g.met.B.Binder.repeats s.binder) h r.follows

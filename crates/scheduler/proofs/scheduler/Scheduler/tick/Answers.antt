@@ -1,65 +1,53 @@
-use Rattle.std.proofs.Common.{◌≡◌, ℕ, ◌+◌, ◌-◌, ◌^◌, ◌<◌, List, length, Some, Ok, Err, Option, sym, refl, ap, ◌∙◌, subst, arith}
+use Rattle.std.proofs.Common.{◌≡◌, ℕ, ◌+◌, ◌-◌, ◌^◌, ◌<◌, List, length, is_ok, Some, Ok, Option, sym, ap, ◌∙◌, subst, arith}
 use Rattle.scheduler.specs.declared.job.Job.{Job as Entry}
 use Rattle.scheduler.specs.declared.calls.Ticked.{Ticked}
 use Rattle.scheduler.specs.History.{Counts}
 use Rattle.scheduler.specs.Policing.{Proper}
 use Rattle.scheduler.specs.Steps.{records, cut_due, with_unit}
-use Rattle.scheduler.specs.Table.{at, job_in, ReadyIn, HeldIn, Numbered, Dated, Slow, Ascending}
-use Rattle.scheduler.specs.Recording.{is_admitted, Ticks}
+use Rattle.scheduler.specs.Table.{at, job_in, ReadyIn, HeldIn, Ascending, TableKeeps}
+use Rattle.scheduler.specs.Recording.{Ticks}
 use Rattle.scheduler.specs.Records.{jobs_of}
 use Rattle.scheduler.specs.Order.{FirstOf}
 use Rattle.scheduler.specs.Rules.{plan_of}
 use Rattle.scheduler.proofs.Certificate.{tick_accepted, certified}
 use Rattle.scheduler.proofs.Chosen.{where_some}
-use Rattle.scheduler.proofs.Keeping.{cut_length, cut_each, open_later, numbered_same, dated_same, slow_same, ascending_same, numbered_ran, dated_ran, slow_ran, ascending_ran}
-use Rattle.scheduler.proofs.Stepping.{tick_recorded}
+use Rattle.scheduler.proofs.Keeping.{cut_length, cut_each, open_later, kept_same, kept_ran}
+use Rattle.scheduler.proofs.Stepping.{unless_ok, tick_recorded}
 use Rattle.scheduler.proofs.Needed.{needs_met}
 use Rattle.scheduler.proofs.scheduler.Scheduler.tick.Goals as goal
 
-pub returns-in-Some : goal.returns-in-Some
-returns-in-Some g c =
+pub returns-in_err-judge_tick-clause-certified : goal.returns-in_err-judge_tick-clause-certified
+returns-in_err-judge_tick-clause-certified g c =
+    let s = c.args.self.now in
+    λ h r. certified (plan_of g.B.Binder s.binder) (g.met.B.Binder.climbs s.binder) (g.met.B.Binder.repeats s.binder) h r.follows
+
+pub returns-in_err-judge_tick-clause-needs_met : goal.returns-in_err-judge_tick-clause-needs_met
+returns-in_err-judge_tick-clause-needs_met g c =
     let s = c.args.self.now in
     let p = plan_of g.B.Binder s.binder in
-    let climbs = g.met.B.Binder.climbs s.binder in
-    let repeats = g.met.B.Binder.repeats s.binder in
-    let refused = sym c.tick_refusal.ensures ∙ c.in-Some.is in
-    record {
-      step = record { answers = (refused, refl); clock_rises = refl };
-      same_binder = record { binder_kept = refl; verdict_kept = refl };
-      refused_changes_nothing = λ e q. refl;
-      recorded = λ h r. tick_recorded p climbs repeats s.verdict s.clock (jobs_of s) h r (Err c.in-Some.why) (jobs_of s) (refused, refl);
-      certified = λ h r. certified p climbs repeats h r.follows;
-      needs_met = λ h r. needs_met p.bound h (certified p climbs repeats h r.follows);
-    }
+    λ h r. needs_met p.bound h (certified p (g.met.B.Binder.climbs s.binder) (g.met.B.Binder.repeats s.binder) h r.follows)
 
 -- the records after the cuts
-module _ (now : ℕ) (js : List Entry) (dated : Dated now js) (slow : Slow now js) (up : Ascending js) where
-  dated₁ : Dated now (cut_due now js)
-  dated₁ = dated_same now js (cut_due now js) (cut_length now js) (cut_each now js) dated
-
-  slow₁ : Slow now (cut_due now js)
-  slow₁ = slow_same now js (cut_due now js) (cut_length now js) (cut_each now js) slow
-
-  up₁ : Ascending (cut_due now js)
-  up₁ = ascending_same now js (cut_due now js) (cut_length now js) (cut_each now js) up
-
-  proper₁ : Proper (cut_due now js)
-  proper₁ n l = (dated₁ n l).1
+module _ (now : ℕ) (js : List Entry) (kept : TableKeeps now js) where
+  kept₁ : TableKeeps now (cut_due now js)
+  kept₁ = kept_same now js (cut_due now js) (cut_length now js) (cut_each now js) kept
 
   -- the job that is to run, if any, is open and due later
-  module _ (bound : ℕ → ℕ → ℕ) (o : Option ℕ) (first : FirstOf (job_in (cut_due now js)) (ReadyIn bound (cut_due now js)) o) where
-    ran_open : (n : ℕ) → o ≡ Some n → (n < length (cut_due now js)) × (now < (at (cut_due now js) n).due)
-    ran_open n e = let r = (subst (FirstOf (job_in (cut_due now js)) (ReadyIn bound (cut_due now js))) e first).0 in (r.0.0, open_later now js n r.0)
+  ran_open : (bound : ℕ → ℕ → ℕ) (o : Option ℕ) → FirstOf (job_in (cut_due now js)) (ReadyIn bound (cut_due now js)) o → (n : ℕ) → o ≡ Some n → (n < length (cut_due now js)) × (now < (at (cut_due now js) n).due)
+  ran_open bound o first n e =
+      let r = (subst (FirstOf (job_in (cut_due now js)) (ReadyIn bound (cut_due now js))) e first).0 in (r.0.0, open_later now js n r.0)
 
-pub survey-choice-requires : goal.survey-choice-requires
-survey-choice-requires g c =
+pub invariant_of-roster : goal.invariant_of-roster
+invariant_of-roster g c =
     let s = c.args.self.now in
     let now = s.clock in
     let js = jobs_of s in
-    let e : c.records.result.now ≡ cut_due now js = c.records.ensures.value ∙ c.cut_due-cut.ensures.after in (
-      omega (arith, c.records.ensures.len, c.cut_due-cut.new.self.few),
-      (subst Proper (sym e) (proper₁ now js s.dated s.slow s.ascending), subst Ascending (sym e) (up₁ now js s.dated s.slow s.ascending)),
-    )
+    let e : c.records.result.now ≡ cut_due now js = c.records.ensures.value ∙ c.cut_due-cut.ensures.after in
+    record {
+      few = omega (arith, c.records.ensures.len, c.cut_due-cut.new.self.few);
+      proper = subst Proper (sym e) (λ n l. ((kept₁ now js s.kept).dated n l).1);
+      ascending = subst Ascending (sym e) (kept₁ now js s.kept).ascending;
+    }
 
 pub run-requires : goal.run-requires
 run-requires g c =
@@ -73,8 +61,8 @@ run-requires g c =
     let count_is : length (cut_due now js) ≡ t.count = ap length (sym e) ∙ c.records.ensures.len in
     where_some c.survey-choice.result.first _
     (λ n q.
-    let r = ran_open now js s.dated s.slow s.ascending bound _ first n q in
-    let w = slow₁ now js s.dated s.slow s.ascending n r.0 in (
+    let r = ran_open now js s.kept bound _ first n q in
+    let w = (kept₁ now js s.kept).slow n r.0 in (
       omega (arith, r.0, count_is),
       subst (λ xs. (at xs n).used < 2 ^ 32 - 1) (sym c.cut_due-cut.ensures.after) (omega (arith, w.0, s.early)),
     ))
@@ -88,21 +76,15 @@ invariant_of-self g c =
     let o = c.survey-choice.result.first in
     let e : c.records.result.now ≡ cut_due now js = c.records.ensures.value ∙ c.cut_due-cut.ensures.after in
     let first = subst (λ xs. FirstOf (job_in xs) (ReadyIn bound xs) o) e c.survey-choice.ensures.first in
-    let known = ran_open now js s.dated s.slow s.ascending bound o first in
+    let known = ran_open now js s.kept bound o first in
     let after : records c.run.new.self ≡ with_unit o (cut_due now js) = c.run.ensures ∙ ap (with_unit o) c.cut_due-cut.ensures.after in
-    let d = dated₁ now js s.dated s.slow s.ascending in
-    let w = slow₁ now js s.dated s.slow s.ascending in
-    let u = up₁ now js s.dated s.slow s.ascending in
     record {
-      early = tick_accepted (is_admitted s.verdict) now (sym c.in_default.ensures) s.early;
-      numbered = subst Numbered (sym after) (numbered_ran now (cut_due now js) d w u o known (numbered_same now js (cut_due now js) (cut_length now js) (cut_each now js) s.numbered));
-      dated = subst (Dated (now + 1)) (sym after) (dated_ran now (cut_due now js) d w u o known);
-      slow = subst (Slow (now + 1)) (sym after) (slow_ran now (cut_due now js) d w u o known);
-      ascending = subst Ascending (sym after) (ascending_ran now (cut_due now js) d w u o known);
+      early = tick_accepted (is_ok s.verdict) now (unless_ok _ tt _ c.in_ok-judge_tick.ensures).0 s.early;
+      kept = subst (TableKeeps (now + 1)) (sym after) (kept_ran now (cut_due now js) (kept₁ now js s.kept) o known);
     }
 
-pub returns : goal.returns
-returns g c =
+pub returns-clause-recorded : goal.returns-clause-recorded
+returns-clause-recorded g c =
     let s = c.args.self.now in
     let now = s.clock in
     let js = jobs_of s in
@@ -120,12 +102,16 @@ returns g c =
       first_ran = subst (λ xs. FirstOf (job_in xs) (ReadyIn p.bound xs) o) e c.survey-choice.ensures.first;
       one_unit_more = c.run.ensures ∙ ap (with_unit o) c.cut_due-cut.ensures.after;
     } in
-    let accepted = sym c.in_default.ensures in
-    record {
-      step = record { answers = (accepted, ticks); clock_rises = refl };
-      same_binder = record { binder_kept = refl; verdict_kept = refl };
-      refused_changes_nothing = λ e q. let z : ◌≡◌ {A = ℕ} 0 1 = cc in absurd (omega arith);
-      recorded = λ h r. tick_recorded p climbs repeats s.verdict now js h r (Ok answered) (records c.run.new.self) (accepted, ticks);
-      certified = λ h r. certified p climbs repeats h r.follows;
-      needs_met = λ h r. needs_met p.bound h (certified p climbs repeats h r.follows);
-    }
+    let accepted = (unless_ok _ tt _ c.in_ok-judge_tick.ensures).0 in
+    λ h r. tick_recorded p climbs repeats s.verdict now js h r (Ok answered) (records c.run.new.self) (accepted, ticks)
+
+pub returns-clause-certified : goal.returns-clause-certified
+returns-clause-certified g c =
+    let s = c.args.self.now in
+    λ h r. certified (plan_of g.B.Binder s.binder) (g.met.B.Binder.climbs s.binder) (g.met.B.Binder.repeats s.binder) h r.follows
+
+pub returns-clause-needs_met : goal.returns-clause-needs_met
+returns-clause-needs_met g c =
+    let s = c.args.self.now in
+    let p = plan_of g.B.Binder s.binder in
+    λ h r. needs_met p.bound h (certified p (g.met.B.Binder.climbs s.binder) (g.met.B.Binder.repeats s.binder) h r.follows)

@@ -1,15 +1,9 @@
-use Rattle.std.proofs.Common.{◌≡◌, ◌+◌, take, set, sym, ap, ◌∙◌, arith, get_or-take}
+use Rattle.std.proofs.Common.{◌≡◌, ◌+◌, take, set, sym, ap, ◌∙◌, get_or-take}
 use lib.Seq.{take-set-lt}
 use Rattle.scheduler.specs.declared.job.Job.{Job as Entry}
 use Rattle.scheduler.specs.Table.{at, empty_entry}
 use Rattle.scheduler.specs.Steps.{with_used}
 use Rattle.scheduler.proofs.table.JobTable.use_unit.Goals as goal
-
-pub overflow_add-job : goal.overflow_add-job
-overflow_add-job c =
-    let t = c.args.self.now in
-    let here : at (take t.count t.jobs) c.args.n ≡ at t.jobs c.args.n = get_or-take t.count t.jobs c.args.n empty_entry c.requires.0 in
-    omega (arith, c.requires.1, ap (λ (j : Entry). j.used) here)
 
 pub returns : goal.returns
 returns c =

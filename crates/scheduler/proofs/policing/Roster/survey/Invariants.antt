@@ -3,10 +3,11 @@ use Rattle.scheduler.specs.History.{Counts}
 use Rattle.scheduler.specs.Order.{FirstOf}
 use Rattle.scheduler.specs.Table.{job_in, ReadyIn, HeldIn}
 use Rattle.scheduler.proofs.Chosen.{Below}
-use Rattle.scheduler.proofs.dispatch.survey.Given as goal
+use Rattle.scheduler.proofs.policing.Roster.survey.Given as goal
 
 abbrev pub invariant-loop-n : goal.invariant-loop-n
 invariant-loop-n g l =
+    let js = l.self.jobs.now in
     (l.held ≤ l.n)
-    × FirstOf (job_in l.jobs) (Below (ReadyIn (g.B.Binder.bound l.binder) l.jobs) l.n) l.first
-    × Counts (HeldIn (g.B.Binder.bound l.binder) l.jobs) l.n l.held
+    × FirstOf (job_in js) (Below (ReadyIn (g.B.Binder.bound l.binder) js) l.n) l.first
+    × Counts (HeldIn (g.B.Binder.bound l.binder) js) l.n l.held
