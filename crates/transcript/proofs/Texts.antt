@@ -1,7 +1,7 @@
 use Rattle.std.proofs.Common.{◌≡◌, ℕ, List, ◌++◌, reverse, codes, sym, ap, ◌∙◌}
 use Rattle.std.specs.List.{flat_map}
 use Rattle.std.proofs.lemmas.List.{append_assoc, reverse-reverse}
-use Rattle.scheduler.specs.History.{Event}
+use Rattle.scheduler.specs.declared.calls.Event.{Event}
 use Rattle.sheets.specs.Sheets.{Declaration}
 use Rattle.transcript.specs.Input.{lines, unreadable_from}
 use Rattle.transcript.specs.Text.{event_line, unreadable_line, Ran}
