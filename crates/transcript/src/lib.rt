@@ -24,7 +24,6 @@ const MOST_BYTES: usize = 65536;
 
 // Runs the calls of the input over an admitted binder.
 fn text_for_run(heap: Global, binder: SheetBinder, input: &[u8]) -> Result<String, AllocError>
-    requires { length input.now ≤ 65536 }
     ensures text { IfOk result (λ s. Ran (declarations binder) input.now (string_bytes s)) }
     ensures no_other { IfOk result (λ s. (text : List ℕ) → Ran (declarations binder) input.now text → text ≡ string_bytes s) }
 {
@@ -38,7 +37,6 @@ fn text_for_run(heap: Global, binder: SheetBinder, input: &[u8]) -> Result<Strin
 
 // The text for a binder: the admission test comes first.
 fn text_for_binder(heap: Global, binder: SheetBinder, input: &[u8]) -> Result<String, AllocError>
-    requires { length input.now ≤ 65536 }
     ensures text { IfOk result (λ s. Transcribed (Ok (declarations binder)) input.now (string_bytes s)) }
     ensures no_other { IfOk result (λ s. (text : List ℕ) → Transcribed (Ok (declarations binder)) input.now text → text ≡ string_bytes s) }
 {

@@ -41,8 +41,5 @@ pub(crate) fn number_of(digits: &[u8]) -> Option<u32>
     if digits.len() > MOST_DIGITS || !are_digits(digits) {
         return None;
     }
-    let Ok(text) = str::from_utf8(digits) else {
-        return None;
-    };
-    text.parse().ok()
+    str::from_utf8(digits).ok()?.parse().ok()
 }

@@ -1,4 +1,4 @@
-ghost use Rattle.std.specs.Prelude.{◌≡◌, ◌≤◌, length, IfOk};
+ghost use Rattle.std.specs.Prelude.{◌≡◌, IfOk};
 ghost use Rattle.std.specs.Iterator.{YieldsFirstBy, item_count};
 ghost use Rattle.scheduler.specs.declared.calls.Call.TheVariants.{Arrive, Finish};
 ghost use Rattle.transcript.specs.Input.{before, behind, number, with_number, with_numbers, call_in, lines, calls_in, unreadable_from};
@@ -29,6 +29,7 @@ fn finish_with(digits: &[u8]) -> Option<Call>
 }
 
 // The call that a line says.
+#[tactic(auto, using(crate::proofs::Lines::call_by_letter))]
 fn call_in(line: &[u8]) -> Option<Call>
     ensures { result ≡ call_in line.now }
 {
@@ -53,6 +54,7 @@ impl<'a> Iterator for Lines<'a> {
 
     ghost remaining = { item_count (λ s. lines s.rest.now) };
 
+    #[tactic(auto, using(crate::proofs::Lines::lines_more))]
     fn next(&mut self) -> Option<&'a [u8]> {
         if self.rest.is_empty() {
             return None;
@@ -73,12 +75,12 @@ pub(crate) struct Script {
 impl Script {
     // Reads the input line by line. The first line has the number 1, and each before the unreadable one says a call.
     pub(crate) fn read(heap: Global, input: &[u8]) -> Result<Script, AllocError>
-        requires { length input.now ≤ 65536 }
         ensures calls { IfOk result (λ s. s.calls.items ≡ calls_in (lines input.now)) }
         ensures unreadable { IfOk result (λ s. s.unreadable ≡ unreadable_from 1 (lines input.now)) }
     {
         let mut calls = Vec::new(heap);
-        for line in (Lines { rest: input }) {
+        let lines = Lines { rest: input };
+        for line in lines {
             let Some(call) = call_in(line) else {
                 let unreadable = Some(calls.len() + 1);
                 return Ok(Script { calls, unreadable });

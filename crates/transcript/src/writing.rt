@@ -24,17 +24,6 @@ pub(crate) fn line_for_refusal(heap: Global, refusal: &TestRefusal) -> Result<St
     format!(in heap; "refused {number} at {length}\n")
 }
 
-// Appends the line for what a tick did.
-fn write_tick(text: &mut String, ticked: Ticked) -> Result<(), AllocError>
-    ensures { OnOk result (string_bytes text.new ≡ string_bytes text.old ++ tick_line ticked.ran ticked.held ticked.cut) }
-{
-    let Ticked { ran, held, cut } = ticked;
-    match ran {
-        Some(job) => writeln!(text, "ran {job} held {held} cut {cut}"),
-        None => writeln!(text, "idle held {held} cut {cut}"),
-    }
-}
-
 // Appends the line for an event.
 fn write_event(text: &mut String, event: &Event) -> Result<(), AllocError>
     ensures { OnOk result (string_bytes text.new ≡ string_bytes text.old ++ event_line event.now) }
@@ -42,7 +31,20 @@ fn write_event(text: &mut String, event: &Event) -> Result<(), AllocError>
     match *event {
         Event::Arrived { job, .. } => writeln!(text, "job {job}"),
         Event::Finished { job, units } => writeln!(text, "finished {job} used {units}"),
-        Event::Ticked(ticked) => write_tick(text, ticked),
+        Event::Ticked(
+            Ticked {
+                ran: Some(job),
+                held,
+                cut,
+            },
+        ) => writeln!(text, "ran {job} held {held} cut {cut}"),
+        Event::Ticked(
+            Ticked {
+                ran: None,
+                held,
+                cut,
+            },
+        ) => writeln!(text, "idle held {held} cut {cut}"),
         Event::Refused { why, .. } => {
             let number = why.number();
             writeln!(text, "refused {number}")
