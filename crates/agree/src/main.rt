@@ -7,6 +7,7 @@ mod cases;
 mod histories;
 mod words;
 
+use anyhow::Context;
 use cases::agrees;
 use std::fs;
 use words::Words;
@@ -17,7 +18,8 @@ fn compare(rt: &HostRuntime, name: &str, cases: &str) -> anyhow::Result<()> {
     let mut agreed = 0u64;
     let mut others = 0u64;
     for (line, case) in (1u64..).zip(text.lines()) {
-        if agrees(rt.alloc(), &mut Words::new(case))? {
+        let place = format_args!("{name}: line {line}");
+        if agrees(rt.alloc(), &mut Words::new(case)).context(place)? {
             agreed = agreed.saturating_add(1);
         } else {
             others = others.saturating_add(1);

@@ -7,6 +7,8 @@ ghost use Rattle.std.specs.List.{AllByRecursion};
 ghost use Rattle.checks.specs.Reference.{Agrees, reference_values};
 
 #[cfg(test)]
+mod expecting;
+#[cfg(test)]
 mod reports;
 #[cfg(test)]
 mod transcripts;

@@ -1,17 +1,10 @@
 // What `admit` prints, case by case.
 
+use crate::expecting::expect;
 use report::admission_report;
-use std::alloc::Global;
-use std::process::Abort;
 use std::test::Fail;
 
 const ONE_SHEET: &[u8] = b"\x0a\0\x01\0\x08\0\x04\0\x02\0\x01\0";
-
-fn expect(rt: &impl Abort, heap: Global, bytes: &[u8], text: &str) -> Result<(), Fail> {
-    let report = admission_report(heap, bytes)?;
-    assert!(rt; report.as_str() == text, "{}", text);
-    Ok(())
-}
 
 #[test]
 fn verdicts(rt: HostRuntime) -> Result<(), Fail> {
@@ -39,7 +32,7 @@ fn verdicts(rt: HostRuntime) -> Result<(), Fail> {
         ),
     ];
     for (bytes, text) in cases {
-        expect(&rt, heap, bytes, text)?;
+        expect(&rt, admission_report(heap, bytes), text)?;
     }
     Ok(())
 }
@@ -79,7 +72,7 @@ fn faults(rt: HostRuntime) -> Result<(), Fail> {
         ),
     ];
     for (bytes, text) in cases {
-        expect(&rt, heap, bytes, text)?;
+        expect(&rt, admission_report(heap, bytes), text)?;
     }
     Ok(())
 }
@@ -94,17 +87,15 @@ fn lengths(rt: HostRuntime) -> Result<(), Fail> {
     nine.push(7)?;
     expect(
         &rt,
-        heap,
-        &nine,
+        admission_report(heap, &nine),
         "file 6 at 96: record 8 is one too few or too many: a file has one to eight\n",
     )?;
     let mut long = vec![in heap; 0u8; 65536]?;
     expect(
         &rt,
-        heap,
-        &long,
+        admission_report(heap, &long),
         "file 2 at 0: record 0 is of no known kind\n",
     )?;
     long.push(0)?;
-    expect(&rt, heap, &long, "input too long\n")
+    expect(&rt, admission_report(heap, &long), "input too long\n")
 }

@@ -1,7 +1,7 @@
 // What `sit` prints, case by case.
 
-use std::alloc::Global;
-use std::process::Abort;
+use crate::expecting::expect;
+use std::fmt::Write;
 use std::test::Fail;
 use transcript::transcript;
 
@@ -86,26 +86,18 @@ const UNREADABLE: [&[u8]; 22] = [
     b"x 0",
 ];
 
-fn expect(
-    rt: &impl Abort,
-    heap: Global,
-    file: &[u8],
-    input: &[u8],
-    text: &str,
-) -> Result<(), Fail> {
-    let printed = transcript(heap, file, input)?;
-    assert!(rt; printed.as_str() == text, "{}", text);
-    Ok(())
-}
-
 #[test]
 fn cases(rt: HostRuntime) -> Result<(), Fail> {
     let heap = rt.alloc();
     for (file, input, text) in CASES {
-        expect(&rt, heap, file, input, text)?;
+        expect(&rt, transcript(heap, file, input), text)?;
     }
     for line in UNREADABLE {
-        expect(&rt, heap, TWO_SHEETS, line, "admitted\nline 1 unreadable\n")?;
+        expect(
+            &rt,
+            transcript(heap, TWO_SHEETS, line),
+            "admitted\nline 1 unreadable\n",
+        )?;
     }
     Ok(())
 }
@@ -116,24 +108,19 @@ fn limits(rt: HostRuntime) -> Result<(), Fail> {
     let mut long = vec![in heap; 0u8; 65536]?;
     expect(
         &rt,
-        heap,
-        TWO_SHEETS,
-        &long,
+        transcript(heap, TWO_SHEETS, &long),
         "admitted\nline 1 unreadable\n",
     )?;
-    expect(&rt, heap, &long, b"", "file 2 at 0\n")?;
+    expect(&rt, transcript(heap, &long, b""), "file 2 at 0\n")?;
     long.push(0)?;
-    expect(&rt, heap, TWO_SHEETS, &long, "input too long\n")?;
-    expect(&rt, heap, &long, b"t\n", "input too long\n")?;
-    expect(&rt, heap, b"", &long, "input too long\n")?;
-    let mut arrivals = Vec::new(heap);
+    for (file, input) in [(TWO_SHEETS, long.as_slice()), (&long, b"t\n"), (b"", &long)] {
+        expect(&rt, transcript(heap, file, input), "input too long\n")?;
+    }
+    let arrivals = b"a 0 4096\n".repeat(heap, 97)?;
     let mut text = String::from_str(heap, "admitted\n")?;
     for job in 0..96u8 {
-        arrivals.extend_from_slice(b"a 0 4096\n")?;
-        let line = format!(in heap; "job {job}\n")?;
-        text.push_str(&line)?;
+        writeln!(text, "job {job}")?;
     }
-    arrivals.extend_from_slice(b"a 0 4096\n")?;
     text.push_str("refused 15\n")?;
-    expect(&rt, heap, TWO_SHEETS, &arrivals, &text)
+    expect(&rt, transcript(heap, TWO_SHEETS, &arrivals), &text)
 }

@@ -27,13 +27,13 @@ behind-first stop (b ∷ bs) = elim (cases_Bool (eqb b stop)) [
 
 module _ (stop : ℕ) (bs : List ℕ) where
   -- the byte stands at i
-  pub place_found : (r : Option ℕ) (i : ℕ) → r ≡ position (λ b. eqb b stop) bs → r ≡ Some i → position_or_len (λ b. eqb b stop) bs ≡ i
+  place_found : (r : Option ℕ) (i : ℕ) → r ≡ position (λ b. eqb b stop) bs → r ≡ Some i → position_or_len (λ b. eqb b stop) bs ≡ i
   place_found r i e f = let n = position_or_len (λ b. eqb b stop) bs in elim (cases_Bool (ltb n (length bs))) [
     | inl t ↦ let s = cond-true (ltb n (length bs)) (Some n) None t in cc
     | inr t ↦ let s = cond-false (ltb n (length bs)) (Some n) None t in cc
   ]
 
-  pub place_none : (r : Option ℕ) → r ≡ position (λ b. eqb b stop) bs → r ≡ None → length bs ≤ position_or_len (λ b. eqb b stop) bs
+  place_none : (r : Option ℕ) → r ≡ position (λ b. eqb b stop) bs → r ≡ None → length bs ≤ position_or_len (λ b. eqb b stop) bs
   place_none r e f = let n = position_or_len (λ b. eqb b stop) bs in elim (cases_Bool (ltb n (length bs))) [
     | inl t ↦ let s = cond-true (ltb n (length bs)) (Some n) None t in cc
     | inr t ↦ omega (arith, ltb-false)

@@ -1,10 +1,10 @@
-use Rattle.std.proofs.Common.{◌≡◌, ℕ, ◌+◌, ◌-◌, ◌*◌, ◌<◌, ◌≤◌, true, false, List, [], ◌∷◌, length, Some, None, Ok, Err, Result, refl, sym, ap, ◌∙◌, rules, inl, inr, arith}
+use Rattle.std.proofs.Common.{◌≡◌, ℕ, leb, ◌+◌, ◌-◌, ◌*◌, ◌<◌, ◌≤◌, true, false, List, [], ◌∷◌, length, Some, None, Ok, Err, Result, refl, rules, inl, inr, arith}
 use Rattle.std.specs.Char.{is_ascii_digit}
 use Rattle.std.specs.List.{list_all}
 use Rattle.std.specs.Result.{result_ok}
 use Rattle.std.specs.Str.{IsUtf8}
 use Rattle.std.specs.Str.Parse.{ParsesUnsigned}
-use Rattle.std.proofs.lemmas.Bool.{cases_Bool, cond-false, cond-true, le-leb, lt-leb, and_from, and_right}
+use Rattle.std.proofs.lemmas.Bool.{cases_Bool, le-leb, lt-leb, and_from, and_right}
 use Rattle.std.proofs.lemmas.Fmt.{IsAscii-from_digits}
 use Rattle.std.proofs.lemmas.Str.{IsUtf8-from_ascii}
 use Rattle.std.proofs.lemmas.Str.Parse.{IsNumeralModel, numerals_by_fold, parse_gives, digits_value_short}
@@ -39,7 +39,7 @@ digits_text bs h = IsUtf8-from_ascii bs (IsAscii-from_digits bs (read_on_digits.
 
 -- too many digits, and a byte that is none
 pub number_long : (bs : List ℕ) → 9 < length bs → None ≡ number bs
-number_long bs h = sym (cond-false (from_to 1 9 (length bs)) (digits_behind 0 bs) None (and_right _ _ (lt-leb (length bs) 9 h)))
+number_long bs h = simp (and_right (leb 1 (length bs)) _ (lt-leb (length bs) 9 h))
 
 pub number_broken : (bs : List ℕ) → list_all is_ascii_digit bs ≡ false → None ≡ number bs
 number_broken bs h = elim (cases_Bool (from_to 1 9 (length bs))) [
@@ -54,4 +54,5 @@ number_read [] (Err e) few all h = refl
 number_read (b ∷ bs) r few all h =
     let short = digits_value_short read_on_digits (b ∷ bs) 9 all few in
     let read = parse_gives read_on_digits 32 (b ∷ bs) r h all (omega arith) (omega arith) in
-    ap result_ok read ∙ sym (cond-true (from_to 1 9 (length (b ∷ bs))) _ None (and_from _ _ (le-leb 1 (length (b ∷ bs)) (omega arith)) (le-leb (length (b ∷ bs)) 9 few)) ∙ digits_all 0 (b ∷ bs) all)
+    let allowed : from_to 1 9 (length (b ∷ bs)) ≡ true = and_from _ _ (le-leb 1 (length (b ∷ bs)) (omega arith)) (le-leb (length (b ∷ bs)) 9 few) in
+    simp (read, allowed, digits_all 0 (b ∷ bs) all)
