@@ -80,10 +80,7 @@ fn faults(rt: HostRuntime) -> Result<(), Fail> {
 #[test]
 fn lengths(rt: HostRuntime) -> Result<(), Fail> {
     let heap = rt.alloc();
-    let mut nine = Vec::new(heap);
-    for _ in 0..8 {
-        nine.extend_from_slice(ONE_SHEET)?;
-    }
+    let mut nine = ONE_SHEET.repeat(heap, 8)?;
     nine.push(7)?;
     expect(
         &rt,
