@@ -6,9 +6,10 @@ use crate::calls::CallRefusal;
 use crate::scheduler::Scheduler;
 use demand::Binder;
 
-// The last tick that the clock shows, and the most ticks from an arrival to its due tick.
+// Where the clock ends.
 const CLOCK_END: u32 = 1_000_000;
 
+// The most ticks from an arrival to its due tick.
 const LONGEST_DEADLINE: u32 = 4096;
 
 impl<B: Binder> Scheduler<B> {
