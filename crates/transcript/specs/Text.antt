@@ -7,9 +7,9 @@ use Rattle.demand.specs.Admission.{admission}
 use Rattle.sheets.specs.Faults.{fault_numbers}
 use Rattle.sheets.specs.Sheets.{Declaration, component_bound, component_gain}
 use Rattle.demand.specs.Verdicts.{refusal_numbers}
-use Rattle.scheduler.specs.History.{Event}
-use Rattle.scheduler.specs.History.Event.{arrived, finished, ticked, refused}
-use Rattle.scheduler.specs.Numbers.{recorded_call}
+use Rattle.scheduler.specs.declared.calls.Event.{Event}
+use Rattle.scheduler.specs.declared.calls.Event.TheVariants.{Arrived, Finished, Ticked, Refused}
+use Rattle.scheduler.specs.Numbers.{call_number}
 use Rattle.scheduler.specs.Rules.{Plan, call_of, Follows}
 use Rattle.transcript.specs.Input.{lines, calls_in, unreadable_from}
 
@@ -27,10 +27,10 @@ tick_line (Some n) held cuts = codes "ran " ++ (decimal n ++ (codes " held " ++ 
 tick_line None held cuts = codes "idle held " ++ (decimal held ++ (codes " cut " ++ (decimal cuts ++ codes "\n")))
 
 abbrev pub event_line : Event → List ℕ
-event_line (arrived k d n) = codes "job " ++ (decimal n ++ codes "\n")
-event_line (finished n u) = codes "finished " ++ (decimal n ++ (codes " used " ++ (decimal u ++ codes "\n")))
-event_line (ticked ran held cuts) = tick_line ran held cuts
-event_line (refused c why) = codes "refused " ++ (decimal why ++ codes "\n")
+event_line (Arrived k d n) = codes "job " ++ (decimal n ++ codes "\n")
+event_line (Finished n u) = codes "finished " ++ (decimal n ++ (codes " used " ++ (decimal u ++ codes "\n")))
+event_line (Ticked x) = tick_line x.ran x.held x.cut
+event_line (Refused c why) = codes "refused " ++ (decimal (call_number why) ++ codes "\n")
 
 -- the line that could not be read, if any, by its number
 abbrev pub unreadable_line : Option ℕ → List ℕ
@@ -44,7 +44,7 @@ plan ds = record { parts = length ds; bound = component_bound ds; gain = compone
 -- the text for sheets that are admitted: the calls of the input are answered by the rules, which allow one answer each
 pub record Ran (ds : List Declaration) (input text : List ℕ) : Type 0 where
   pub events : List Event
-  pub each_call_answered : map call_of events ≡ map recorded_call (calls_in (lines input))
+  pub each_call_answered : map call_of events ≡ calls_in (lines input)
   pub by_the_rules : Follows (plan ds) (reverse events)
   pub printed : text ≡ codes "admitted\n" ++ (flat_map event_line events ++ unreadable_line (unreadable_from 1 (lines input)))
 

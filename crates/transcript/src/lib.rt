@@ -17,30 +17,26 @@ use reading::Script;
 use scheduler::run;
 use sheet_binder::SheetBinder;
 use std::alloc::{AllocError, Global};
-use writing::{line_for_fault, line_for_refusal, line_for_unreadable, lines_for_events};
+use writing::{line_for_fault, line_for_refusal, write_events, write_unreadable};
 
 // The most bytes that the binder file has, and the input.
 const MOST_BYTES: usize = 65536;
 
 // Runs the calls of the input over an admitted binder.
 fn text_for_run(heap: Global, binder: SheetBinder, input: &[u8]) -> Result<String, AllocError>
-    requires { length input.now ≤ 65536 }
     ensures text { IfOk result (λ s. Ran (declarations binder) input.now (string_bytes s)) }
     ensures no_other { IfOk result (λ s. (text : List ℕ) → Ran (declarations binder) input.now text → text ≡ string_bytes s) }
 {
     let script = Script::read(heap, input)?;
     let events = run(heap, binder, &script.calls)?;
     let mut text = String::from_str(heap, "admitted\n")?;
-    let lines = lines_for_events(heap, &events)?;
-    let last = line_for_unreadable(heap, script.unreadable)?;
-    text.push_str(&lines)?;
-    text.push_str(&last)?;
+    write_events(&mut text, &events)?;
+    write_unreadable(&mut text, script.unreadable)?;
     Ok(text)
 }
 
 // The text for a binder: the admission test comes first.
 fn text_for_binder(heap: Global, binder: SheetBinder, input: &[u8]) -> Result<String, AllocError>
-    requires { length input.now ≤ 65536 }
     ensures text { IfOk result (λ s. Transcribed (Ok (declarations binder)) input.now (string_bytes s)) }
     ensures no_other { IfOk result (λ s. (text : List ℕ) → Transcribed (Ok (declarations binder)) input.now text → text ≡ string_bytes s) }
 {

@@ -1,4 +1,5 @@
-ghost use Rattle.std.specs.Prelude.{◌≡◌, ◌≤◌, length, IfOk};
+ghost use Rattle.std.specs.Prelude.{◌≡◌, IfOk};
+ghost use Rattle.std.specs.Iterator.{YieldsFirstBy, item_count};
 ghost use Rattle.scheduler.specs.declared.calls.Call.TheVariants.{Arrive, Finish};
 ghost use Rattle.transcript.specs.Input.{before, behind, number, with_number, with_numbers, call_in, lines, calls_in, unreadable_from};
 
@@ -23,11 +24,12 @@ fn arrive_with(numbers: &[u8]) -> Option<Call>
 fn finish_with(digits: &[u8]) -> Option<Call>
     ensures { result ≡ with_number Finish (number digits.now) }
 {
-    let job = number_of(digits)? as usize;
+    let job = usize::try_from(number_of(digits)?).ok()?;
     Some(Call::Finish { job })
 }
 
 // The call that a line says.
+#[tactic(auto, using(crate::proofs::Lines::call_by_letter))]
 fn call_in(line: &[u8]) -> Option<Call>
     ensures { result ≡ call_in line.now }
 {
@@ -39,6 +41,30 @@ fn call_in(line: &[u8]) -> Option<Call>
     }
 }
 
+// The lines of an input, without the byte that ends each.
+#[derive(Drop)]
+struct Lines<'a> {
+    rest: &'a [u8],
+}
+
+impl<'a> Iterator for Lines<'a> {
+    type Item = &'a [u8];
+
+    ghost next_gives = { YieldsFirstBy (λ x. x.now) (λ s. lines s.rest.now) };
+
+    ghost remaining = { item_count (λ s. lines s.rest.now) };
+
+    #[tactic(auto, using(crate::proofs::Lines::lines_more))]
+    fn next(&mut self) -> Option<&'a [u8]> {
+        if self.rest.is_empty() {
+            return None;
+        }
+        let (line, behind) = cut_at(self.rest, b'\n');
+        self.rest = behind;
+        Some(line)
+    }
+}
+
 // What is read of an input: the calls of the lines before the first that says none, and the number of that line.
 #[derive(Drop)]
 pub(crate) struct Script {
@@ -47,26 +73,19 @@ pub(crate) struct Script {
 }
 
 impl Script {
-    // Reads the input line by line. The first line has the number 1.
+    // Reads the input line by line. The first line has the number 1, and each before the unreadable one says a call.
     pub(crate) fn read(heap: Global, input: &[u8]) -> Result<Script, AllocError>
-        requires { length input.now ≤ 65536 }
         ensures calls { IfOk result (λ s. s.calls.items ≡ calls_in (lines input.now)) }
         ensures unreadable { IfOk result (λ s. s.unreadable ≡ unreadable_from 1 (lines input.now)) }
     {
         let mut calls = Vec::new(heap);
-        let mut rest = input;
-        let mut number: usize = 1;
-        while !rest.is_empty() {
-            let (line, behind) = cut_at(rest, b'\n');
+        let lines = Lines { rest: input };
+        for line in lines {
             let Some(call) = call_in(line) else {
-                return Ok(Script {
-                    calls,
-                    unreadable: Some(number),
-                });
+                let unreadable = Some(calls.len() + 1);
+                return Ok(Script { calls, unreadable });
             };
             calls.push(call)?;
-            rest = behind;
-            number += 1;
         }
         Ok(Script {
             calls,
