@@ -49,6 +49,7 @@ fn judge_rows(rows: &[Row], start: RecordStart) -> Result<(), FileFault>
     }
     let mut last = None;
     for (i, row) in rows.iter().enumerate() {
+        // there are at most eight, so `as` loses nothing
         judge_row(last, row, start, 4 + 8 * i as u32)?;
         last = Some(*row);
     }
