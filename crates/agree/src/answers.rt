@@ -1,120 +1,114 @@
 // Calls of a scheduler, each with the answer that the reference gives.
-use crate::words::Words;
+use crate::words::{FromWords, Words};
+use anyhow::{Context, bail};
 use demand::Refusal;
 use scheduler::{Call, CallRefusal, Event, Ticked};
-use std::alloc::{AllocError, Global};
+use std::alloc::Global;
 
-// What a call answers: the new job, the units of the finished one, what a tick did, or the refusal's number.
-#[derive(Clone, Copy, PartialEq)]
-pub(crate) enum Answer {
-    Job(usize),
-    Units(u32),
-    Ticked {
-        ran: Option<usize>,
-        held: usize,
-        cut: usize,
-    },
-    Refused(u32),
-}
+// The refusals that the reference gives by their numbers.
+const REFUSALS: [CallRefusal; 7] = [
+    CallRefusal::NotAdmitted,
+    CallRefusal::NoComponent,
+    CallRefusal::DeadlineOutOfRange,
+    CallRefusal::ClockEnded,
+    CallRefusal::TableFull,
+    CallRefusal::NoJob,
+    CallRefusal::NotOpen,
+];
 
-// A call that is made so many times, and answered alike each time.
+// A call with its answer, which it gets so many times in a row.
 #[derive(Clone, Copy)]
-pub(crate) struct Step {
-    pub(crate) call: Call,
-    pub(crate) times: u64,
-    pub(crate) answer: Answer,
+struct Step {
+    event: Event,
+    times: u64,
 }
 
-pub(crate) fn arrive_answer(answer: Result<usize, CallRefusal>) -> Answer {
-    match answer {
-        Ok(job) => Answer::Job(job),
-        Err(why) => Answer::Refused(why.number()),
+// The call with the answer that the next words say.
+fn read_answer(call: Call, words: &mut Words) -> anyhow::Result<Event> {
+    match (call, words.word()?) {
+        (
+            Call::Arrive {
+                component,
+                deadline,
+            },
+            "j",
+        ) => Ok(Event::Arrived {
+            component,
+            deadline,
+            job: words.number()?,
+        }),
+        (Call::Finish { job }, "u") => Ok(Event::Finished {
+            job,
+            units: words.number()?,
+        }),
+        (Call::Tick, "r") => {
+            let ran = Some(words.number()?);
+            read_ticked(ran, words)
+        }
+        (Call::Tick, "i") => read_ticked(None, words),
+        (_, "x") => Ok(Event::Refused {
+            call,
+            why: CallRefusal::from_words(words)?,
+        }),
+        _ => bail!("an answer is of no known form"),
     }
 }
 
-pub(crate) fn finish_answer(answer: Result<u32, CallRefusal>) -> Answer {
-    match answer {
-        Ok(units) => Answer::Units(units),
-        Err(why) => Answer::Refused(why.number()),
+fn read_ticked(ran: Option<usize>, words: &mut Words) -> anyhow::Result<Event> {
+    Ok(Event::Ticked(Ticked {
+        ran,
+        held: words.number()?,
+        cut: words.number()?,
+    }))
+}
+
+impl FromWords for CallRefusal {
+    fn from_words(words: &mut Words) -> anyhow::Result<CallRefusal> {
+        let number: u32 = words.number()?;
+        REFUSALS
+            .into_iter()
+            .find(|why| why.number() == number)
+            .context("no refusal has that number")
     }
 }
 
-pub(crate) fn tick_answer(answer: Result<Ticked, CallRefusal>) -> Answer {
-    match answer {
-        Ok(ticked) => Answer::Ticked {
-            ran: ticked.ran,
-            held: ticked.held,
-            cut: ticked.cut,
-        },
-        Err(why) => Answer::Refused(why.number()),
-    }
-}
-
-pub(crate) fn event_answer(event: Event) -> Answer {
-    match event {
-        Event::Arrived { job, .. } => Answer::Job(job),
-        Event::Finished { units, .. } => Answer::Units(units),
-        Event::Ticked { ran, held, cut } => Answer::Ticked { ran, held, cut },
-        Event::Refused { why, .. } => Answer::Refused(why.number()),
-    }
-}
-
-// The next call, and how many times it is made.
-fn read_call(words: &mut Words) -> (Call, u64) {
-    match words.letter() {
-        b'a' => {
-            let component = words.middle();
-            let deadline = words.middle();
-            (
-                Call::Arrive {
-                    component,
-                    deadline,
+impl FromWords for Step {
+    fn from_words(words: &mut Words) -> anyhow::Result<Step> {
+        let (call, times) = match words.word()? {
+            "a" => {
+                let component = words.number()?;
+                let deadline = words.number()?;
+                (
+                    Call::Arrive {
+                        component,
+                        deadline,
+                    },
+                    1,
+                )
+            }
+            "f" => (
+                Call::Finish {
+                    job: words.number()?,
                 },
                 1,
-            )
-        }
-        b'f' => (Call::Finish { job: words.long() }, 1),
-        b'm' => (Call::Tick, words.number()),
-        _ => (Call::Tick, 1),
+            ),
+            "m" => (Call::Tick, words.number()?),
+            "t" => (Call::Tick, 1),
+            _ => bail!("a call is of no known form"),
+        };
+        let event = read_answer(call, words)?;
+        Ok(Step { event, times })
     }
 }
 
-// The next answer; a word that begins none is read as a refusal.
-fn read_answer(words: &mut Words) -> Answer {
-    match words.letter() {
-        b'j' => Answer::Job(words.long()),
-        b'u' => Answer::Units(words.middle()),
-        b'r' => {
-            let ran = Some(words.long());
-            let held = words.long();
-            let cut = words.long();
-            Answer::Ticked { ran, held, cut }
+// The history that a line says, call by call.
+pub(crate) fn read_events(heap: Global, words: &mut Words) -> anyhow::Result<Vec<Event>> {
+    let steps: Vec<Step> = words.list(heap)?;
+    let mut events = Vec::new(heap);
+    for step in &steps {
+        for _ in 0..step.times {
+            events.push(step.event)?;
         }
-        b'i' => {
-            let held = words.long();
-            let cut = words.long();
-            Answer::Ticked {
-                ran: None,
-                held,
-                cut,
-            }
-        }
-        _ => Answer::Refused(words.middle()),
     }
-}
-
-// The steps of a line, behind their count.
-pub(crate) fn read_steps(heap: Global, words: &mut Words) -> Result<Vec<Step>, AllocError> {
-    let mut steps = Vec::new(heap);
-    let count = words.number();
-    for _ in 0..count.min(100_000) {
-        let (call, times) = read_call(words);
-        let answer = read_answer(words);
-        steps.push(Step {
-            call,
-            times,
-            answer,
-        })?;
-    }
-    Ok(steps)
+    Ok(events)
 }

@@ -1,141 +1,115 @@
 // One case: what the reference says of a file, a task list, a history or what `sit` prints, and what the library does with it.
 use crate::histories::history_agrees;
-use crate::words::Words;
-use binder_file::{WriteRefusal, binder_verdict, read_file, write_file};
+use crate::words::{FromWords, Words};
+use binder_file::{binder_verdict, read_file, write_file};
 use demand::Binder;
 use row_sheet::RowSheet;
 use sheet_binder::SheetBinder;
 use sheets::Row;
-use std::alloc::{AllocError, Global};
+use std::alloc::Global;
 use tasks::Task;
 use transcript::transcript;
 
-// Whether the library agrees with the next line.
-pub(crate) fn agrees(heap: Global, words: &mut Words) -> Result<bool, AllocError> {
-    match words.letter() {
-        b'r' => read_agrees(heap, words),
-        b'b' => boot_agrees(heap, words),
-        b'a' => ask_agrees(heap, words),
-        b'w' => write_agrees(heap, words),
-        b'm' => make_agrees(heap, words),
-        b'h' => history_agrees(heap, words),
-        b's' => sit_agrees(heap, words),
+// Whether the library agrees with the line.
+pub(crate) fn agrees(heap: Global, words: &mut Words) -> anyhow::Result<bool> {
+    match words.word()? {
+        "read" => read_agrees(heap, words),
+        "boot" => boot_agrees(heap, words),
+        "ask" => ask_agrees(heap, words),
+        "write" => write_agrees(heap, words),
+        "make" => make_agrees(heap, words),
+        "history" => history_agrees(heap, words),
+        "sit" => sit_agrees(heap, words),
         _ => Ok(false),
     }
 }
 
-fn read_agrees(heap: Global, words: &mut Words) -> Result<bool, AllocError> {
+fn read_agrees(heap: Global, words: &mut Words) -> anyhow::Result<bool> {
     let file = words.bytes(heap)?;
-    let said = (words.number(), words.number(), words.number());
+    let said = match (words.number()?, words.number()?, words.number()?) {
+        (0, 0, 0) => Ok(()),
+        refusal => Err(refusal),
+    };
     let mut binder = SheetBinder::new();
-    Ok(match read_file(&mut binder, &file) {
-        Ok(()) => said == (0, 0, 0),
-        Err(fault) => {
-            let (number, index, place) = fault.numbers();
-            said == (u64::from(number), u64::from(index), place)
-        }
-    })
+    let answer = read_file(&mut binder, &file).map_err(|fault| fault.numbers());
+    Ok(answer == said)
 }
 
-fn boot_agrees(heap: Global, words: &mut Words) -> Result<bool, AllocError> {
+fn boot_agrees(heap: Global, words: &mut Words) -> anyhow::Result<bool> {
     let file = words.bytes(heap)?;
-    Ok(words.number() == u64::from(binder_verdict(&file)))
+    let said: u32 = words.number()?;
+    Ok(binder_verdict(&file) == said)
 }
 
-fn ask_agrees(heap: Global, words: &mut Words) -> Result<bool, AllocError> {
+fn ask_agrees(heap: Global, words: &mut Words) -> anyhow::Result<bool> {
     let file = words.bytes(heap)?;
-    let k = words.middle();
-    let length = words.middle();
-    let said = (words.number(), words.number());
+    let k = words.number()?;
+    let length = words.number()?;
+    let said = (words.number()?, words.number()?);
+    let mut binder = SheetBinder::new();
+    Ok(read_file(&mut binder, &file).is_ok() && (binder.bound(k, length), binder.gain(k)) == said)
+}
+
+// The buffer has to begin with the file where it is written, and to be as it was behind it.
+fn write_agrees(heap: Global, words: &mut Words) -> anyhow::Result<bool> {
+    let file = words.bytes(heap)?;
+    let room: u16 = words.number()?;
+    let said = match (words.number()?, words.number()?) {
+        (0, count) => Ok(count),
+        refusal => Err(refusal),
+    };
     let mut binder = SheetBinder::new();
     if read_file(&mut binder, &file).is_err() {
         return Ok(false);
     }
-    Ok(said == (binder.bound(k, length), binder.gain(k)))
+    let mut buffer = vec![in heap; 0xAA; usize::from(room)]?;
+    let answer = write_file(&binder, &mut buffer).map_err(|refusal| refusal.numbers());
+    let written = if answer.is_ok() { file.as_slice() } else { &[] };
+    let kept = match buffer.strip_prefix(written) {
+        Some(rest) => rest.iter().all(|byte| *byte == 0xAA),
+        None => false,
+    };
+    Ok(answer == said && kept)
 }
 
-fn write_agrees(heap: Global, words: &mut Words) -> Result<bool, AllocError> {
-    let file = words.bytes(heap)?;
-    let room = usize::from(words.short());
-    let number = words.number();
-    let said = words.number();
-    let mut binder = SheetBinder::new();
-    if read_file(&mut binder, &file).is_err() {
-        return Ok(false);
+impl FromWords for Task {
+    fn from_words(words: &mut Words) -> anyhow::Result<Task> {
+        Ok(Task {
+            period: words.number()?,
+            deadline: words.number()?,
+            budget: words.number()?,
+        })
     }
-    let mut buffer = vec![in heap; 0xAA; room]?;
-    let answer = write_file(&binder, &mut buffer);
-    let mut filled = Vec::new(heap);
-    if let Ok(_) = answer {
-        filled.extend_from_slice(&file)?;
-    }
-    for _ in filled.len()..room {
-        filled.push(0xAA)?;
-    }
-    let same = buffer == filled;
-    Ok(match answer {
-        Ok(count) => same && number == 0 && said == count as u64,
-        Err(WriteRefusal::ShortBuffer(needed)) => same && number == 7 && said == needed as u64,
-        Err(WriteRefusal::NoSheet) => false,
-    })
 }
 
-fn read_tasks(heap: Global, words: &mut Words) -> Result<Vec<Task>, AllocError> {
-    let mut tasks = Vec::new(heap);
-    let count = words.number();
-    for _ in 0..count.min(1000) {
-        let period = words.short();
-        let deadline = words.short();
-        let budget = words.short();
-        tasks.push(Task {
-            period,
-            deadline,
-            budget,
-        })?;
+impl FromWords for Row {
+    fn from_words(words: &mut Words) -> anyhow::Result<Row> {
+        Ok(Row {
+            period: words.number()?,
+            deadline: words.number()?,
+            budget: words.number()?,
+            copies: words.number()?,
+        })
     }
-    Ok(tasks)
 }
 
-// The rows that the line has, where a sheet is made.
-fn read_rows(heap: Global, words: &mut Words) -> Result<Vec<Row>, AllocError> {
-    let mut rows = Vec::new(heap);
-    let count = words.number();
-    for _ in 0..count.min(1000) {
-        let period = words.short();
-        let deadline = words.short();
-        let budget = words.short();
-        let copies = words.short();
-        rows.push(Row {
-            period,
-            deadline,
-            budget,
-            copies,
-        })?;
-    }
-    Ok(rows)
-}
-
-fn make_agrees(heap: Global, words: &mut Words) -> Result<bool, AllocError> {
-    let tasks = read_tasks(heap, words)?;
-    let number = words.number();
+fn make_agrees(heap: Global, words: &mut Words) -> anyhow::Result<bool> {
+    let tasks: Vec<Task> = words.list(heap)?;
     let mut sheet = RowSheet::BUILT_IN;
-    let answer = sheet.make_from_tasks(&tasks);
-    if number == 0 {
-        let rows = read_rows(heap, words)?;
-        return Ok(answer.is_ok() && sheet.rows() == rows.as_slice());
-    }
-    let index = words.number();
-    Ok(match answer {
-        Ok(()) => false,
-        Err(refusal) => {
-            let (n, i) = refusal.numbers();
-            number == u64::from(n) && index == i as u64
+    let answer = sheet
+        .make_from_tasks(&tasks)
+        .map_err(|refusal| refusal.numbers());
+    Ok(match words.number()? {
+        0 => {
+            let rows: Vec<Row> = words.list(heap)?;
+            answer.is_ok() && sheet.rows() == rows.as_slice()
         }
+        number => answer == Err((number, words.number()?)),
     })
 }
 
 // The file and the input of `sit`, and what it prints.
-fn sit_agrees(heap: Global, words: &mut Words) -> Result<bool, AllocError> {
+fn sit_agrees(heap: Global, words: &mut Words) -> anyhow::Result<bool> {
     let file = words.bytes(heap)?;
     let input = words.bytes(heap)?;
     let said = words.bytes(heap)?;

@@ -11,33 +11,25 @@ use cases::agrees;
 use std::fs;
 use words::Words;
 
-// How many cases of a file agree and how many do not; those that do not are named.
-fn compare(rt: &HostRuntime, name: &str) -> anyhow::Result<(u64, u64)> {
-    let heap = rt.alloc();
-    let text = fs::read(rt, name)?;
-    let mut words = Words::new(&text);
+// Says how many cases of a file agree and how many do not; those that do not are named.
+fn compare(rt: &HostRuntime, name: &str, cases: &str) -> anyhow::Result<()> {
+    let text = fs::read_to_string(rt, name)?;
     let mut agreed = 0u64;
     let mut others = 0u64;
-    for line in 1..1_000_000u64 {
-        if words.is_at_end() {
-            break;
-        }
-        if agrees(heap, &mut words)? {
+    for (line, case) in (1u64..).zip(text.lines()) {
+        if agrees(rt.alloc(), &mut Words::new(case))? {
             agreed = agreed.saturating_add(1);
         } else {
             others = others.saturating_add(1);
             println!(rt; "{name}: line {line} does not agree")?;
         }
     }
-    Ok((agreed, others))
+    println!(rt; "{agreed} {cases} agree, {others} do not")?;
+    Ok(())
 }
 
 fn main(rt: HostRuntime) -> anyhow::Result<()> {
-    let (agreed, others) = compare(&rt, "cases.txt")?;
-    println!(rt; "{agreed} cases agree, {others} do not")?;
-    let (agreed, others) = compare(&rt, "history_cases.txt")?;
-    println!(rt; "{agreed} histories agree, {others} do not")?;
-    let (agreed, others) = compare(&rt, "sit_cases.txt")?;
-    println!(rt; "{agreed} cases of sit agree, {others} do not")?;
-    Ok(())
+    compare(&rt, "cases.txt", "cases")?;
+    compare(&rt, "history_cases.txt", "histories")?;
+    compare(&rt, "sit_cases.txt", "cases of sit")
 }
