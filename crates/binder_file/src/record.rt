@@ -32,7 +32,7 @@ impl<'a> Record<'a> {
         ensures found { IfOk result (λ r. (r.file.now ≡ file.now) × (r.start ≡ start)) }
         ensures fault { IfErr result (λ fault. record_judged file.now start ≡ Err fault) }
     {
-        // `as`, since no `From` takes a `u32` to a `usize`
+        // `as` here too
         let place = start.place as usize;
         let rest = file.len().saturating_sub(place);
         if rest < 4 || rest < 2 + usize::from(word(file, place)) {
@@ -41,18 +41,25 @@ impl<'a> Record<'a> {
         Ok(Record { file, start })
     }
 
+    // Where in the file the record begins. `as`, since no `From` takes a `u32` to a `usize`.
+    fn place(&self) -> usize
+        ensures { result ≡ self.now.start.place }
+    {
+        self.start.place as usize
+    }
+
     // How many bytes of the record follow its length.
     fn length(&self) -> u16
         ensures { result ≡ length_at self.now.file.now self.now.start }
     {
-        word(self.file, self.start.place as usize)
+        word(self.file, self.place())
     }
 
     // The number that names the record's kind.
     fn kind(&self) -> u16
         ensures { result ≡ kind_at self.now.file.now self.now.start }
     {
-        word(self.file, self.start.place as usize + 2)
+        word(self.file, self.place() + 2)
     }
 
     // The fields, where the record has a kind and at most 40 whole fields.
@@ -62,7 +69,7 @@ impl<'a> Record<'a> {
         ensures refused { let n = length_at self.now.file.now self.now.start in IfNone result (whole_fields n ≡ true → 40 < (n - 2) / 2) }
     {
         let size = usize::from(self.length()).checked_sub(2)?;
-        let place = self.start.place as usize + 4;
+        let place = self.place() + 4;
         let (pairs, odd) = self.file[place..place + size].as_chunks::<2>();
         if !odd.is_empty() || pairs.len() > 40 {
             return None;

@@ -16,7 +16,7 @@ pub enum WriteRefusal {
 }
 
 impl WriteRefusal {
-    // The refusal's number, with the bytes needed.
+    // The refusal's number, with the bytes needed, as the rules list them.
     pub fn numbers(&self) -> (u32, usize)
         ensures { result ≡ write_numbers self.now }
     {

@@ -42,6 +42,7 @@ fn push_record<S: SheetKind>(sheet: &S, file: &mut FileBytes)
     ensures few { array_vec_len file.new ≤ array_vec_len file.old + RECORD_ROOM }
 {
     let fields = sheet.fields();
+    // at most 40 fields, so `as` loses nothing
     push_words(&[(2 + 2 * fields.len()) as u16, S::tag()], file);
     push_words(&fields, file);
 }

@@ -59,7 +59,7 @@ pub fn verdict_numbers(answer: Result<(), TestRefusal>) -> (u32, u32)
     }
 }
 
-// The admission test, its verdict in numbers.
+// The admission test, its verdict in numbers, as the rules list them and boot code is given them.
 pub fn admission_test<B: Binder>(binder: &B) -> (u32, u32)
     ensures verdict { result ≡ verdict_numbers (admission (B.Binder.count binder.now) (B.Binder.bound binder.now) (B.Binder.gain binder.now)) }
     ensures admitted_exactly_when_demand_fits { (result ≡ (0, 0) → DemandFits (B.Binder.count binder.now) (B.Binder.bound binder.now)) × (DemandFits (B.Binder.count binder.now) (B.Binder.bound binder.now) → result ≡ (0, 0)) }

@@ -18,7 +18,7 @@ pub enum TestRefusal {
 }
 
 impl TestRefusal {
-    // The refusal's number, with the length that is exceeded, or 0.
+    // The refusal's number, with the length that is exceeded, or 0, as the rules list them.
     pub fn numbers(&self) -> (u32, u32)
         ensures { result ≡ refusal_numbers self.now }
     {

@@ -12,14 +12,14 @@ use std::fmt::Write;
 // Appends the line on the slack of a binder that is refused.
 fn write_refused_slack(
     text: &mut String,
-    refusal: TestRefusal,
+    refusal: &TestRefusal,
     binder: &SheetBinder,
     least: Slack,
 ) -> Result<(), AllocError>
-    ensures { OnOk result (string_bytes text.new ≡ string_bytes text.old ++ refused_slack_line refusal (demand (length (declarations binder.now)) (component_bound (declarations binder.now))) least.length least.free) }
+    ensures { OnOk result (string_bytes text.new ≡ string_bytes text.old ++ refused_slack_line refusal.now (demand (length (declarations binder.now)) (component_bound (declarations binder.now))) least.length least.free) }
 {
     let Slack { length, free } = least;
-    match refusal {
+    match *refusal {
         TestRefusal::DemandExceeds(at) => {
             let excess = total_demand(binder, at).saturating_sub(u64::from(at));
             writeln!(text, "exceeded by {excess} at length {at}")
@@ -44,7 +44,7 @@ pub(crate) fn write_slack(
     let Slack { length, free } = least;
     match verdict {
         Ok(()) => writeln!(text, "least slack {free} at length {length}"),
-        Err(refusal) => write_refused_slack(text, refusal, binder, least),
+        Err(refusal) => write_refused_slack(text, &refusal, binder, least),
     }
 }
 

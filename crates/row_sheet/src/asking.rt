@@ -8,7 +8,8 @@ ghost use Rattle.std.proofs.Common.{rules};
 use crate::sheet::RowSheet;
 use demand::Binder;
 
-// The sheet alone, as a binder of one component.
+// The sheet alone, as a binder of one component. Each kind of sheet has its own `impl`: the language takes none of another crate's
+// trait for every type of a kind, and a wrapper would have to be asked of callers.
 impl Binder for RowSheet {
     ghost count = { λ _. 1 };
 

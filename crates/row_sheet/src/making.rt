@@ -49,6 +49,7 @@ fn judge_rows(rows: &[Row], start: RecordStart) -> Result<(), FileFault>
     }
     let mut last = None;
     for (i, row) in rows.iter().enumerate() {
+        // there are at most eight, so `as` loses nothing
         judge_row(last, row, start, 4 + 8 * i as u32)?;
         last = Some(*row);
     }
@@ -75,7 +76,8 @@ impl RowSheet {
         RowSheet { rows: held, len }
     }
 
-    // Makes this the sheet of the given rows, or refuses them as a file of that record alone.
+    // Makes this the sheet of the given rows, or refuses them as a file of that record alone. Rows come as a slice and a line as a
+    // value, so each kind has its own.
     pub fn make(&mut self, rows: &[Row]) -> Result<(), FileFault>
         ensures answer { result ≡ rows_judged rows.now (record { index = 0; place = 0 }) }
         ensures made { result ≡ Ok tt → sheet_rows self.new ≡ rows.now }

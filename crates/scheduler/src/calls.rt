@@ -1,8 +1,10 @@
-ghost use Rattle.std.specs.Prelude.{◌≡◌};
-ghost use Rattle.scheduler.specs.Numbers.{call_number};
+ghost use Rattle.std.specs.Prelude.{◌≡◌, Some};
+ghost use Rattle.scheduler.specs.Numbers.{call_number, call_words};
 ghost use Rattle.std.proofs.Common.{rules};
 
 use demand::Refusal;
+use std::error::Error;
+use std::fmt;
 
 // A call of a scheduler. Arrive names a component and a deadline, counted in ticks from the arrival; finish names a job.
 #[derive(Clone, Copy, PartialEq, Eq, Debug)]
@@ -77,3 +79,22 @@ impl Refusal for CallRefusal {
         }
     }
 }
+
+// Why, in words.
+impl fmt::Display for CallRefusal {
+    ghost output = { λ x. Some (call_words x) };
+
+    fn fmt<W: fmt::Write>(&self, f: &mut fmt::Formatter<W>) -> fmt::Result {
+        f.write_str(match self {
+            CallRefusal::NotAdmitted => "the binder is not admitted",
+            CallRefusal::NoComponent => "there is no such component",
+            CallRefusal::DeadlineOutOfRange => "a deadline is 1 to 4096 ticks",
+            CallRefusal::ClockEnded => "the clock has ended",
+            CallRefusal::TableFull => "the table of jobs is full",
+            CallRefusal::NoJob => "there is no such job",
+            CallRefusal::NotOpen => "the job is not open",
+        })
+    }
+}
+
+impl Error for CallRefusal {}

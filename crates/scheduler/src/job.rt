@@ -41,6 +41,7 @@ pub const EMPTY: Job = Job {
 };
 
 impl Job {
+    // Whether the job is open.
     pub(crate) fn is_open(&self) -> bool
         ensures { result ≡ is_open self.now.status }
     {

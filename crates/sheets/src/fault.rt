@@ -53,7 +53,7 @@ impl RecordStart {
 }
 
 impl FileFault {
-    // The refusal's number, with the record and the place.
+    // The refusal's number, with the record and the place, as the rules list them.
     pub fn numbers(&self) -> (u32, u32, u64)
         ensures { result ≡ fault_numbers self.now }
     {

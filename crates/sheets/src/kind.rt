@@ -11,7 +11,7 @@ use arrayvec::ArrayVec;
 
 // A kind of sheet: its number in a file, and how its fields, two bytes each, are read and written.
 pub trait SheetKind: Sized {
-    // The number that names the kind in a file.
+    // The number that names the kind in a file: the format's, so it is no enum.
     const KIND: u16;
 
     // `KIND`, as a clause can speak of it.

@@ -74,7 +74,7 @@ fn copies_held(row: &Row, rows: &[Row]) -> u64
 }
 
 // Puts a row among others that stand in sheet order: to the row that it is like, or to its place.
-fn place(row: Row, rows: &mut ArrayVec<Row, 8>)
+fn insert_row(row: Row, rows: &mut ArrayVec<Row, 8>)
     requires ordered { Ascending rows.old.items }
     requires room { length (placed row rows.old.items) ≤ 8 }
     requires few_copies { (row.copies ≤ 16) × AllByRecursion (λ r. r.copies ≤ 16) rows.old.items }
@@ -131,7 +131,7 @@ fn group_tasks(tasks: &[Task]) -> Result<ArrayVec<Row, 8>, MakeRefusal>
         if is_crowded(&row, rows.as_slice()) {
             return Err(MakeRefusal::NoRoom(i));
         }
-        place(row, &mut rows);
+        insert_row(row, &mut rows);
     }
     Ok(rows)
 }

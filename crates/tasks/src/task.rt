@@ -18,14 +18,14 @@ pub struct Task {
 // Why no sheet is made of a task list.
 #[derive(Clone, Copy, PartialEq, Eq, Debug)]
 pub enum MakeRefusal {
-    // this task is out of range; 0 for an empty list, 64 for one of more than 64 tasks
+    // this task is out of range; by the rules 0 for an empty list, 64 for one of more than 64 tasks
     TaskOutOfRange(usize),
     // this task would need a ninth row or a seventeenth copy
     NoRoom(usize),
 }
 
 impl MakeRefusal {
-    // The refusal's number, with the task's index.
+    // The refusal's number, with the task's index, as the rules list them.
     pub fn numbers(&self) -> (u32, usize)
         ensures { result ≡ make_numbers self.now }
     {

@@ -6,21 +6,19 @@ use crate::calls::CallRefusal;
 use crate::scheduler::Scheduler;
 use demand::Binder;
 
-// The last tick that the clock shows, and the most ticks from an arrival to its due tick.
+// Where the clock ends.
 const CLOCK_END: u32 = 1_000_000;
 
+// The most ticks from an arrival to its due tick.
 const LONGEST_DEADLINE: u32 = 4096;
 
 impl<B: Binder> Scheduler<B> {
-    // Refuses an arrive that the rules refuse.
+    // Refuses an arrive that the rules refuse: each that comes where a tick would be refused, and some more.
     pub(crate) fn judge_arrive(&self, component: u32, deadline: u32) -> Result<(), CallRefusal>
         ensures { result ≡ unless (arrive_refused B.Binder self.now component deadline) tt }
     {
-        if self.verdict.is_err() {
-            Err(CallRefusal::NotAdmitted)
-        } else if self.clock == CLOCK_END {
-            Err(CallRefusal::ClockEnded)
-        } else if component >= self.binder.count() {
+        self.judge_tick()?;
+        if component >= self.binder.count() {
             Err(CallRefusal::NoComponent)
         } else if !(1..=LONGEST_DEADLINE).contains(&deadline) {
             Err(CallRefusal::DeadlineOutOfRange)

@@ -30,6 +30,7 @@ impl Binder for SheetBinder {
 
     ghost still = { λ x. past_value gain_of (declarations x) };
 
+    // At most eight, so `as` loses nothing; below, no `From` takes a `u32` to a `usize`.
     fn count(&self) -> u32 {
         self.len as u32
     }

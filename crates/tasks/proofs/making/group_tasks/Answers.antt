@@ -23,8 +23,8 @@ returns-then-is_crowded-clause-answer c =
     ∙ ap (λ (l : List Row). no_room (copies_of row l) (length l)) (sym c.as_slice.ensures.value) ∙ sym c.if-is_crowded.ensures in
     sym (ap (refused_by NoRoom) (v.1 ∙ first_here (crowded ks) i (length ts) (omega arith) t))
 
-pub place-requires-clause-room : goal.place-requires-clause-room
-place-requires-clause-room c =
+pub insert_row-requires-clause-room : goal.insert_row-requires-clause-room
+insert_row-requires-clause-room c =
     let ts = c.args.tasks.now in
     let v = c.loop-i.invariant in
     let i = c.loop-i.i in
@@ -36,8 +36,8 @@ place-requires-clause-room c =
     let ranged = subst (λ (r : Row). row_ranges r ≡ true) (sym c.row_of-row.ensures) ((tasks_accepted ts c.requires).ranged i (omega arith)) in
     placed_few (map rounded ts) i c.loop-i.rows.items row v.0 (omega (arith, length-map ts rounded)) is f one ranged
 
-pub place-requires-clause-few_copies : goal.place-requires-clause-few_copies
-place-requires-clause-few_copies c =
+pub insert_row-requires-clause-few_copies : goal.insert_row-requires-clause-few_copies
+insert_row-requires-clause-few_copies c =
     let one : c.row_of-row.result.copies ≡ 1 = ap (λ (r : Row). r.copies) c.row_of-row.ensures in
     (omega arith, All-weaker (λ r. row_ranges r ≡ true) (λ r. r.copies ≤ 16) (λ r h. (ranges_from r h).copies_high) c.loop-i.rows.items c.loop-i.invariant.0.ranged)
 
@@ -55,7 +55,7 @@ loop-i-preserved c =
     ap (λ (l : List Row). no_room (copies_of row l) (length l)) (sym c.as_slice.ensures.value) ∙ sym c.if-is_crowded.ensures in
     let one : row.copies ≡ 1 = ap (λ (r : Row). r.copies) c.row_of-row.ensures in
     let ranged = subst (λ (r : Row). row_ranges r ≡ true) (sym c.row_of-row.ensures) ((tasks_accepted ts c.requires).ranged i (omega arith)) in (
-      subst (λ (l : List Row). Filled ks (i + 1) l) (sym c.place.ensures) (filled_more ks i rs row v.0 here is f one ranged),
+      subst (λ (l : List Row). Filled ks (i + 1) l) (sym c.insert_row.ensures) (filled_more ks i rs row v.0 here is f one ranged),
       v.1 ∙ first_later (crowded ks) i (length ts) (omega arith) (crowded_is ks i rs row v.0 here is ∙ f),
     )
 

@@ -7,7 +7,7 @@ use Rattle.tasks.specs.Tasks.{no_row}
 use Rattle.tasks.specs.Placing.{placed}
 use Rattle.tasks.proofs.Ordered.{key_of, search-found, search-missed}
 use Rattle.tasks.proofs.Placed.{placed-joined, placed-inserted, refill-all}
-use Rattle.tasks.proofs.making.place.Goals as goal
+use Rattle.tasks.proofs.making.insert_row.Goals as goal
 
 pub insert-requires : goal.insert-requires
 insert-requires c =
