@@ -10,7 +10,7 @@ use std::alloc::Global;
 use tasks::Task;
 use transcript::transcript;
 
-// Whether the library agrees with the line.
+// Whether the library agrees with the line, whose first word says what follows it.
 pub(crate) fn agrees(heap: Global, words: &mut Words) -> anyhow::Result<bool> {
     match words.word()? {
         "read" => read_agrees(heap, words),

@@ -1,6 +1,7 @@
 ghost use Rattle.std.specs.Prelude.{◌≡◌, ℕ, ◌≤◌};
 
-// Anything that a call can be refused with. Its number is from 1 to 19.
+// Anything that a call can be refused with. Its number is from 1 to 19. Each `impl` takes it from numbers of its own types, so it has
+// no common body.
 pub trait Refusal {
     ghost numbered: { Self → ℕ };
 

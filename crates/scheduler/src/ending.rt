@@ -5,7 +5,8 @@ ghost use Rattle.scheduler.specs.Steps.{ended, ending_answer, is_due, cut_at, cu
 use crate::calls::CallRefusal;
 use crate::job::{Ending, Job, JobStatus};
 
-// Ends an open job, and answers the units that it has used; a job that has ended is refused and stays.
+// Ends an open job, and answers the units that it has used; a job that has ended is refused and stays. One `match` on how the job stands
+// and what ends it, so that every case is seen.
 pub(crate) fn end_job(job: &mut Job, ending: Ending) -> Result<u32, CallRefusal>
     ensures answer { result ≡ ending_answer job.old }
     ensures after { job.new ≡ ended ending job.old }
