@@ -54,6 +54,7 @@ fn read_answer(call: Call, words: &mut Words) -> anyhow::Result<Event> {
     }
 }
 
+// What a tick did, behind the job that it ran.
 fn read_ticked(ran: Option<usize>, words: &mut Words) -> anyhow::Result<Event> {
     Ok(Event::Ticked(Ticked {
         ran,

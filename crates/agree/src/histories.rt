@@ -32,11 +32,10 @@ fn sheet_agrees(heap: Global, words: &mut Words) -> anyhow::Result<bool> {
     let Some(binder) = read_binder(heap, words)? else {
         return Ok(false);
     };
-    let events = read_events(heap, words)?;
     match binder.sheets() {
         [sheet] => match *sheet {
-            Sheet::Rows(rows) => answers_agree(heap, rows, &events),
-            Sheet::Line(line) => answers_agree(heap, line, &events),
+            Sheet::Rows(rows) => answers_agree(heap, rows, words),
+            Sheet::Line(line) => answers_agree(heap, line, words),
         },
         _ => Ok(false),
     }
@@ -46,8 +45,7 @@ fn file_agrees(heap: Global, words: &mut Words) -> anyhow::Result<bool> {
     let Some(binder) = read_binder(heap, words)? else {
         return Ok(false);
     };
-    let events = read_events(heap, words)?;
-    answers_agree(heap, binder, &events)
+    answers_agree(heap, binder, words)
 }
 
 // Two binders side by side.
@@ -55,31 +53,28 @@ fn pair_agrees(heap: Global, words: &mut Words) -> anyhow::Result<bool> {
     let (Some(first), Some(second)) = (read_binder(heap, words)?, read_binder(heap, words)?) else {
         return Ok(false);
     };
-    let events = read_events(heap, words)?;
-    answers_agree(heap, SideBySide { first, second }, &events)
+    answers_agree(heap, SideBySide { first, second }, words)
 }
 
-// Whether a scheduler over the binder gives the answers: by its calls, and as one run.
+// Whether a scheduler over the binder gives the answers that follow: by its calls, and as one run.
 fn answers_agree<B: Binder + Copy>(
     heap: Global,
     binder: B,
-    events: &[Event],
+    words: &mut Words,
 ) -> anyhow::Result<bool> {
+    let events = read_events(heap, words)?;
     let calls: Vec<Call> = events.iter().map(call_of).collect(heap)?;
     let ran = run(heap, binder, &calls)?;
-    Ok(calls_agree(binder, events) && ran.as_slice() == events)
+    Ok(calls_agree(binder, &events) && ran == events)
 }
 
+// Whether the calls, made one by one, are answered so.
 fn calls_agree<B: Binder + Drop>(binder: B, events: &[Event]) -> bool {
     let mut scheduler = Scheduler::new(binder);
-    for event in events {
-        if answer_to(&mut scheduler, call_of(event)) != *event {
-            return false;
-        }
-    }
-    true
+    events.iter().all(|event| answer_to(&mut scheduler, call_of(event)) == *event)
 }
 
+// The call of an event.
 fn call_of(event: &Event) -> Call {
     match *event {
         Event::Arrived {

@@ -20,10 +20,12 @@ impl<'a> Words<'a> {
         }
     }
 
+    // The next word.
     pub(crate) fn word(&mut self) -> anyhow::Result<&'a str> {
         self.words.next().context("a line ends early")
     }
 
+    // The next word as a number of the type.
     pub(crate) fn number<T: FromStr>(&mut self) -> anyhow::Result<T>
     where
         T::Err: Drop,

@@ -57,3 +57,7 @@ Judged (Err e) ds input text = text ≡ refused_line e
 abbrev pub Transcribed : Result (List Declaration) FileFault → List ℕ → List ℕ → Type 0
 Transcribed (Ok ds) input text = Judged (admission (length ds) (component_bound ds) (component_gain ds)) ds input text
 Transcribed (Err f) input text = text ≡ fault_line f
+
+-- the text fits, and no other one does
+abbrev pub OnlyText : (List ℕ → Type 0) → List ℕ → Type 0
+OnlyText Fits text = Fits text × ((other : List ℕ) → Fits other → other ≡ text)

@@ -2,10 +2,10 @@
 
 #![tactic(auto)]
 
-ghost use Rattle.std.specs.Prelude.{◌≡◌, ℕ, ◌<◌, ◌≤◌, ◌⊎◌, List, length, IfOk, Ok, string_bytes, codes};
+ghost use Rattle.std.specs.Prelude.{◌≡◌, ◌<◌, ◌≤◌, ◌⊎◌, length, IfOk, Ok, string_bytes, codes};
 ghost use Rattle.binder_file.specs.Format.{decode};
 ghost use Rattle.sheet_binder.specs.Declarations.{declarations};
-ghost use Rattle.transcript.specs.Text.{Ran, Transcribed};
+ghost use Rattle.transcript.specs.Text.{Ran, Transcribed, OnlyText};
 
 mod pieces;
 mod reading;
@@ -24,8 +24,7 @@ const MOST_BYTES: usize = 65536;
 
 // Runs the calls of the input over an admitted binder.
 fn text_for_run(heap: Global, binder: SheetBinder, input: &[u8]) -> Result<String, AllocError>
-    ensures text { IfOk result (λ s. Ran (declarations binder) input.now (string_bytes s)) }
-    ensures no_other { IfOk result (λ s. (text : List ℕ) → Ran (declarations binder) input.now text → text ≡ string_bytes s) }
+    ensures { IfOk result (λ s. OnlyText (Ran (declarations binder) input.now) (string_bytes s)) }
 {
     let script = Script::read(heap, input)?;
     let events = run(heap, binder, &script.calls)?;
@@ -37,8 +36,7 @@ fn text_for_run(heap: Global, binder: SheetBinder, input: &[u8]) -> Result<Strin
 
 // The text for a binder: the admission test comes first.
 fn text_for_binder(heap: Global, binder: SheetBinder, input: &[u8]) -> Result<String, AllocError>
-    ensures text { IfOk result (λ s. Transcribed (Ok (declarations binder)) input.now (string_bytes s)) }
-    ensures no_other { IfOk result (λ s. (text : List ℕ) → Transcribed (Ok (declarations binder)) input.now text → text ≡ string_bytes s) }
+    ensures { IfOk result (λ s. OnlyText (Transcribed (Ok (declarations binder)) input.now) (string_bytes s)) }
 {
     match admit(&binder) {
         Ok(()) => text_for_run(heap, binder, input),
@@ -50,8 +48,7 @@ fn text_for_binder(heap: Global, binder: SheetBinder, input: &[u8]) -> Result<St
 // only error. What is printed follows the rules, and no other text does.
 pub fn transcript(heap: Global, file: &[u8], input: &[u8]) -> Result<String, AllocError>
     ensures too_long { (65536 < length file.now) ⊎ (65536 < length input.now) → IfOk result (λ s. string_bytes s ≡ codes "input too long\n") }
-    ensures text { length file.now ≤ 65536 → length input.now ≤ 65536 → IfOk result (λ s. Transcribed (decode file.now) input.now (string_bytes s)) }
-    ensures no_other { length file.now ≤ 65536 → length input.now ≤ 65536 → IfOk result (λ s. (text : List ℕ) → Transcribed (decode file.now) input.now text → text ≡ string_bytes s) }
+    ensures only_text { length file.now ≤ 65536 → length input.now ≤ 65536 → IfOk result (λ s. OnlyText (Transcribed (decode file.now) input.now) (string_bytes s)) }
 {
     if file.len() > MOST_BYTES || input.len() > MOST_BYTES {
         return String::from_str(heap, "input too long\n");
