@@ -5,7 +5,7 @@ ghost use Rattle.binder_file.specs.Format.{decode};
 use crate::reading::read_sheets;
 use demand::admission_test;
 
-// A refusal's number and its place or length in one number.
+// A refusal's number and its place or length in one number, which is what code in C takes.
 fn pack(number: u32, detail: u32) -> u32
     requires { (number ≤ 19) × (detail < 65536) }
     ensures { result ≡ boot_number (number, detail) }

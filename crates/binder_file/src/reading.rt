@@ -21,7 +21,8 @@ pub(crate) fn read_sheets(bytes: &[u8]) -> Result<SheetBinder, FileFault>
         return Err(FileFault::RecordCount(start.at(0)));
     }
     let mut binder = SheetBinder::new();
-    // no `for`: where a record begins is known only once the one before it is read; `as` from a `u32`, which no `From` takes
+    // no `for`: where a record begins is known only once the one before it is read, and the limit of eight comes between the two;
+    // `as` from a `u32` to a `usize`, which no `From` takes
     while (start.place as usize) < bytes.len() {
         if start.index == 8 {
             return Err(FileFault::RecordCount(start.at(0)));

@@ -32,7 +32,7 @@ impl<'a> Record<'a> {
         ensures found { IfOk result (λ r. (r.file.now ≡ file.now) × (r.start ≡ start)) }
         ensures fault { IfErr result (λ fault. record_judged file.now start ≡ Err fault) }
     {
-        // `as` here too
+        // `as` from a `u32` to a `usize`, which no `From` takes
         let place = start.place as usize;
         let rest = file.len().saturating_sub(place);
         if rest < 4 || rest < 2 + usize::from(word(file, place)) {
@@ -41,7 +41,7 @@ impl<'a> Record<'a> {
         Ok(Record { file, start })
     }
 
-    // Where in the file the record begins. `as`, since no `From` takes a `u32` to a `usize`.
+    // Where in the file the record begins.
     fn place(&self) -> usize
         ensures { result ≡ self.now.start.place }
     {

@@ -1,4 +1,4 @@
-// The boot entry for code in C, as a static library.
+// The boot entry for code in C, as a static library. A crate is either that or a library, so the entry stands in both.
 
 #![tactic(auto)]
 

@@ -118,6 +118,7 @@ fn limits(rt: HostRuntime) -> Result<(), Fail> {
     }
     let arrivals = b"a 0 4096\n".repeat(heap, 97)?;
     let mut text = String::from_str(heap, "admitted\n")?;
+    // the number itself is printed
     for job in 0..96u8 {
         writeln!(text, "job {job}")?;
     }

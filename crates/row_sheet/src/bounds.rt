@@ -6,6 +6,7 @@ ghost use Rattle.row_sheet.specs.Sporadic.{MostWork};
 use crate::sheet::RowSheet;
 use sheets::Row;
 
+// What a row of a sheet keeps to is asked for: a row alone promises nothing.
 fn row_bound(row: &Row, length: u32) -> u64
     requires { (1 ≤ row.now.period) × (row.now.budget ≤ 4096) × (row.now.copies ≤ 16) }
     ensures { result ≡ row_bound row.now length }
@@ -17,6 +18,7 @@ fn row_bound(row: &Row, length: u32) -> u64
     u64::from(row.copies) * u64::from(row.budget) * (since / u64::from(row.period) + 1)
 }
 
+// As above.
 fn row_gain(row: &Row) -> u64
     requires { (1 ≤ row.now.period) × (row.now.budget ≤ 4096) × (row.now.copies ≤ 16) }
     ensures { result ≡ row_gain row.now }

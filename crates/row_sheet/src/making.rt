@@ -11,7 +11,7 @@ use crate::sheet::RowSheet;
 use sheets::{FileFault, Location, RecordStart, Row, accept, is_power, lies_in};
 use tasks::{MakeRefusal, Task, rows_of_tasks};
 
-// The row's fields in file order, the row being `offset` bytes into its record.
+// The row's fields in file order, the row being `offset` bytes into its record. The two meet in `start.at`, and only here and below.
 fn judge_fields(row: &Row, start: RecordStart, offset: u32) -> Result<(), FileFault>
     requires { offset ≤ 60 }
     ensures { result ≡ row_fields row.now start offset }

@@ -18,15 +18,6 @@ use Rattle.sheets.specs.Lines.{line_judged, sound_line}
 use Rattle.demand.proofs.Fields.{range_from}
 use Rattle.sheets.proofs.Faults.{IsOk-then}
 
--- one more row is judged
-pub rows_from_more : (last : Option Row) (rs : List Row) (start : RecordStart) (offset i : ℕ) (d : Row) → i < length rs → rows_from last (drop i rs) start offset ≡ then (row_judged last (get_or rs i d) start offset) (λ _. rows_from (Some (get_or rs i d)) (drop (i + 1) rs) start (offset + 8))
-rows_from_more last rs start offset i d h = at_drop_more (λ l. rows_from last l start offset) rs i d h
-
--- one to eight rows are judged one by one
-pub rows_counted : (rs : List Row) (start : RecordStart) → 1 ≤ length rs → length rs ≤ 8 → rows_judged rs start ≡ rows_from None rs start 4
-rows_counted rs start low high =
-    cond-true (from_to 1 8 (length rs)) _ _ (and_from (leb 1 (length rs)) (leb (length rs) 8) (le-leb 1 (length rs) low) (le-leb (length rs) 8 high))
-
 -- the ranges of a row's fields
 abbrev pub row_ranges : Row → Bool
 row_ranges r = power_of_two r.period && (from_to 1 r.period r.deadline && (from_to 1 4096 r.budget && from_to 1 16 r.copies))
