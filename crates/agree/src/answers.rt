@@ -3,7 +3,7 @@ use crate::words::{FromWords, Words};
 use anyhow::{Context, bail};
 use demand::Refusal;
 use scheduler::{Call, CallRefusal, Event, Ticked};
-use std::alloc::Global;
+use std::iter::repeat_n;
 
 // The refusals that the reference gives by their numbers.
 const REFUSALS: [CallRefusal; 7] = [
@@ -20,7 +20,7 @@ const REFUSALS: [CallRefusal; 7] = [
 #[derive(Clone, Copy)]
 struct Step {
     event: Event,
-    times: u64,
+    times: usize,
 }
 
 // The call with the answer that the next words say.
@@ -103,13 +103,11 @@ impl FromWords for Step {
 }
 
 // The history that a line says, call by call.
-pub(crate) fn read_events(heap: Global, words: &mut Words) -> anyhow::Result<Vec<Event>> {
-    let steps: Vec<Step> = words.list(heap)?;
-    let mut events = Vec::new(heap);
+pub(crate) fn read_events(words: &mut Words) -> anyhow::Result<Vec<Event>> {
+    let steps: Vec<Step> = words.list()?;
+    let mut events = Vec::new(words.heap);
     for step in &steps {
-        for _ in 0..step.times {
-            events.push(step.event)?;
-        }
+        events.extend(repeat_n(step.event, step.times))?;
     }
     Ok(events)
 }

@@ -19,7 +19,7 @@ fn compare(rt: &HostRuntime, name: &str, cases: &str) -> anyhow::Result<()> {
     let mut others = 0u64;
     for (line, case) in (1u64..).zip(text.lines()) {
         let place = format_args!("{name}: line {line}");
-        if agrees(rt.alloc(), &mut Words::new(case)).context(place)? {
+        if agrees(&mut Words::new(rt.alloc(), case)).context(place)? {
             agreed = agreed.saturating_add(1);
         } else {
             others = others.saturating_add(1);

@@ -1,10 +1,11 @@
-// The words of a line, one blank between them.
-use anyhow::Context;
+// The words of a line, one blank between them, and the heap for what is read from them.
+use anyhow::{Context, ensure};
 use std::alloc::Global;
 use std::str::{FromStr, SplitWhitespace};
 
 #[derive(Drop)]
 pub(crate) struct Words<'a> {
+    pub(crate) heap: Global,
     words: SplitWhitespace<'a>,
 }
 
@@ -14,8 +15,9 @@ pub(crate) trait FromWords: Sized {
 }
 
 impl<'a> Words<'a> {
-    pub(crate) fn new(line: &'a str) -> Words<'a> {
+    pub(crate) fn new(heap: Global, line: &'a str) -> Words<'a> {
         Words {
+            heap,
             words: line.split_whitespace(),
         }
     }
@@ -34,22 +36,28 @@ impl<'a> Words<'a> {
     }
 
     // Bytes in hexadecimal, `-` for none.
-    pub(crate) fn bytes(&mut self, heap: Global) -> anyhow::Result<Vec<u8>> {
+    pub(crate) fn bytes(&mut self) -> anyhow::Result<Vec<u8>> {
         match self.word()? {
-            "-" => Ok(Vec::new(heap)),
-            digits => hex::decode(heap, digits)
+            "-" => Ok(Vec::new(self.heap)),
+            digits => hex::decode(self.heap, digits)
                 .ok()
                 .context("a word is not in hexadecimal"),
         }
     }
 
     // Items behind their count.
-    pub(crate) fn list<T: FromWords + Drop>(&mut self, heap: Global) -> anyhow::Result<Vec<T>> {
+    pub(crate) fn list<T: FromWords + Drop>(&mut self) -> anyhow::Result<Vec<T>> {
         let count: u32 = self.number()?;
-        let mut items = Vec::new(heap);
+        let mut items = Vec::new(self.heap);
         for _ in 0..count {
             items.push(T::from_words(self)?)?;
         }
         Ok(items)
+    }
+
+    // The end of the line: a word more is an error.
+    pub(crate) fn finish(&mut self) -> anyhow::Result<()> {
+        ensure!(self.words.next().is_none(), "a line has words left over");
+        Ok(())
     }
 }
