@@ -49,7 +49,8 @@ pub fn admit<B: Binder>(binder: &B) -> Result<(), TestRefusal>
     Ok(())
 }
 
-// The refusal's number with the length, (0, 0) where there is none.
+// The refusal's number with the length, (0, 0) where there is none: in numbers, since that is how the rules list a verdict and boot
+// code is given it.
 pub fn verdict_numbers(answer: Result<(), TestRefusal>) -> (u32, u32)
     ensures { result ≡ verdict_numbers answer }
 {
@@ -82,13 +83,8 @@ fn slack_at<B: Binder>(binder: &B, length: u32) -> Slack
 pub fn tightest<B: Binder>(binder: &B) -> Slack
     ensures { Tightest (B.Binder.count binder.now) (B.Binder.bound binder.now) result.length result.free }
 {
-    // A loop, since `min_by_key` answers an `Option`, and there is always a least one.
-    let mut least = slack_at(binder, 1);
-    for length in 2..8193u32 {
-        let slack = slack_at(binder, length);
-        if slack.free < least.free {
-            least = slack;
-        }
-    }
-    least
+    (1..8193u32)
+        .map(|length| slack_at(binder, length))
+        .min_by_key(|slack| slack.free)
+        .unwrap()
 }

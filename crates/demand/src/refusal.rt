@@ -1,7 +1,7 @@
 ghost use Rattle.std.specs.Prelude.{◌≡◌, ℕ, ◌≤◌};
 
-// Anything that a call can be refused with. Its number is from 1 to 19. Each `impl` takes it from numbers of its own types, so it has
-// no common body.
+// Anything that a call can be refused with. Its number is from 1 to 19. What goes with the number differs from one refusal
+// to the other, so each `impl` has its own line.
 pub trait Refusal {
     ghost numbered: { Self → ℕ };
 
