@@ -83,13 +83,8 @@ fn slack_at<B: Binder>(binder: &B, length: u32) -> Slack
 pub fn tightest<B: Binder>(binder: &B) -> Slack
     ensures { Tightest (B.Binder.count binder.now) (B.Binder.bound binder.now) result.length result.free }
 {
-    // A loop with the least one so far: with `min_by_key`, which promises a fold of its calls, the proof did not close.
-    let mut least = slack_at(binder, 1);
-    for length in 2..8193u32 {
-        let slack = slack_at(binder, length);
-        if slack.free < least.free {
-            least = slack;
-        }
-    }
-    least
+    (1..8193u32)
+        .map(|length| slack_at(binder, length))
+        .min_by_key(|slack| slack.free)
+        .unwrap()
 }
