@@ -1,5 +1,5 @@
 -- The starts of spent windows decide which open jobs are held.
-use Rattle.std.proofs.Common.{◌≡◌, ℕ, zero, suc, ◌+◌, ◌-◌, ◌<◌, ◌≤◌, Bool, true, false, cond, eqb, leb, List, length, get_or, Some, None, Option, sym, refl, ap, ◌∙◌, subst, ⊎_elim, arith, take, length-take-le, get_or-take}
+use Rattle.std.proofs.Common.{◌≡◌, ℕ, zero, suc, ◌+◌, ◌-◌, ◌<◌, ◌≤◌, Bool, true, false, cond, eqb, leb, List, length, get_or, Some, None, Option, sym, refl, ap, ◌∙◌, subst, ⊎_elim, arith}
 use Rattle.std.proofs.lemmas.Bool.{cases_lt, and_parts, and_from, eqb-true, leb-true, eq-eqb, le-leb}
 use Rattle.demand.specs.Admission.{total}
 use Rattle.scheduler.specs.declared.job.Job.{Job as Entry}
@@ -73,9 +73,6 @@ module _ (bound : ℕ → ℕ → ℕ) (climbs : (k l m : ℕ) → l ≤ m → b
   -- what the windows that end where each job is due are, by the number of that job
   abbrev pub Windows : List (Option Window) → Type 0
   Windows ws = (length ws ≡ length js) × ((b : ℕ) → b < length js → FirstSpent bound js (at js b) (get_or ws b None))
-
-  pub windows_taken : (ws : List (Option Window)) → length js ≤ length ws → ((b : ℕ) → b < length js → FirstSpent bound js (at js b) (get_or ws b None)) → Windows (take (length js) ws)
-  windows_taken ws fits found = (length-take-le (length js) ws fits, λ b l. subst (FirstSpent bound js (at js b)) (sym (get_or-take (length js) ws b None l)) (found b l))
 
   pub not_free : (ws : List (Option Window)) → Windows ws → (n : ℕ) → HeldBy ws (at js n) → FreeIn bound js n → ⊥
   not_free ws right n held free =

@@ -15,7 +15,7 @@ pub(crate) struct Choice {
 }
 
 impl Roster<'_> {
-    // The first of the job so far and job n, whose number is higher.
+    // The first of the job so far and job n, whose number is higher. Both are told by their numbers, as a tick answers a job.
     fn first_of_two(&self, first: Option<usize>, n: usize) -> Option<usize>
         requires { (n < length self.now.jobs.now) × (IfSome first (λ i. i < length self.now.jobs.now)) }
         ensures { result ≡ first_of_two self.now.jobs.now first n }
@@ -27,18 +27,18 @@ impl Roster<'_> {
         }
     }
 
-    // Of the open jobs, those without a free unit are counted as held; of the others the one that goes first is to run.
+    // Of the open jobs, those without a free unit are counted as held; of the others the one that goes first is to run. A loop by
+    // hand, since one pass both counts and chooses.
     pub(crate) fn survey<B: Binder>(&self, binder: &B) -> Choice
         ensures first { FirstOf (job_in self.now.jobs.now) (ReadyIn (B.Binder.bound binder.now) self.now.jobs.now) result.first }
         ensures held { Counts (HeldIn (B.Binder.bound binder.now) self.now.jobs.now) (length self.now.jobs.now) result.held }
     {
         let windows = self.spent_windows(binder);
-        let windows = &windows[..self.jobs.len()];
         let mut first = None;
         let mut held = 0;
         for (n, job) in self.jobs.iter().enumerate() {
             if job.is_open() {
-                if is_held(windows, job) {
+                if is_held(windows.as_slice(), job) {
                     held += 1;
                 } else {
                     first = self.first_of_two(first, n);

@@ -2,7 +2,8 @@ ghost use Rattle.std.specs.Prelude.{◌≡◌};
 ghost use Rattle.scheduler.specs.Policing.{due_by, overtakes};
 ghost use Rattle.scheduler.specs.Table.{is_open};
 
-// How a job record stands: no job in it yet, open, finished by its component, or cut at its deadline.
+// How a job record stands: no job in it yet, open, finished by its component, or cut at its deadline. A table has all its records
+// from the start, so one without a job is marked empty.
 #[derive(Clone, Copy, PartialEq, Eq, Debug)]
 pub enum JobStatus {
     Empty,

@@ -5,6 +5,7 @@ ghost use Rattle.scheduler.specs.Table.{at, arrival_in, Ascending};
 use crate::job::Job;
 use crate::table::MOST_JOBS;
 use crate::window::Window;
+use arrayvec::ArrayVec;
 use demand::Binder;
 
 // The jobs of a table by their numbers: each is due after its arrival, and none arrived before one of a lower number.
@@ -60,13 +61,15 @@ impl Roster<'_> {
         })
     }
 
-    // The spent windows that end where a job is due, by the number of that job. A tick takes no memory, so they are an array.
-    pub(crate) fn spent_windows<B: Binder>(&self, binder: &B) -> [Option<Window>; MOST_JOBS]
-        ensures { (b : ℕ) → b < length self.now.jobs.now → FirstSpent (B.Binder.bound binder.now) self.now.jobs.now (at self.now.jobs.now b) (slice_index_or result b None) }
+    // For each job, in the order of the numbers: the spent window that ends where it is due, if any. A tick takes nothing from the heap,
+    // so the vector has a fixed capacity.
+    pub(crate) fn spent_windows<B: Binder>(&self, binder: &B) -> ArrayVec<Option<Window>, MOST_JOBS>
+        ensures one_each { length result.items ≡ length self.now.jobs.now }
+        ensures first_spent { (b : ℕ) → b < length self.now.jobs.now → FirstSpent (B.Binder.bound binder.now) self.now.jobs.now (at self.now.jobs.now b) (slice_index_or result.items b None) }
     {
-        let mut windows = [None; MOST_JOBS];
-        for (b, last) in self.jobs.iter().enumerate() {
-            windows[b] = self.spent_window(binder, last);
+        let mut windows = ArrayVec::new();
+        for last in self.jobs {
+            windows.push(self.spent_window(binder, last));
         }
         windows
     }

@@ -7,7 +7,8 @@ use crate::job::Job;
 // How many jobs a table has room for.
 pub(crate) const MOST_JOBS: usize = 96;
 
-// The job table: 96 records, of which those below `count` hold a job. It takes no memory, so the records are an array.
+// The job table. A tick takes nothing from the heap, and a table has 96 records from the start, all marked empty, as `Scheduler::new`
+// promises: so an array, of which the records below `count` hold a job.
 #[derive(Clone, Copy)]
 pub struct JobTable {
     pub(crate) jobs: [Job; MOST_JOBS],

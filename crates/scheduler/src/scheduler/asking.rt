@@ -9,7 +9,7 @@ use crate::scheduler::Scheduler;
 use demand::{Binder, verdict_numbers};
 
 impl<B: Binder> Scheduler<B> {
-    // The admission test's verdict on the binder: a number and a length, (0, 0) for admitted.
+    // The admission test's verdict on the binder. The rules give it as a pair, a number and a length: (0, 0) for admitted.
     pub fn verdict(&self) -> (u32, u32)
         ensures { result ≡ verdict_numbers self.now.verdict }
     {

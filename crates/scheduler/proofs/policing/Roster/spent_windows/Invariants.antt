@@ -3,7 +3,7 @@ use Rattle.scheduler.specs.Table.{at}
 use Rattle.scheduler.specs.Policing.{FirstSpent}
 use Rattle.scheduler.proofs.policing.Roster.spent_windows.Given as goal
 
-abbrev pub invariant-loop-b : goal.invariant-loop-b
-invariant-loop-b g l =
+abbrev pub invariant-loop-last : goal.invariant-loop-last
+invariant-loop-last g l =
     let js = l.self.jobs.now in
-    (length l.windows ≡ 96) × ((m : ℕ) → m < l.b → FirstSpent (g.B.Binder.bound l.binder) js (at js m) (get_or l.windows m None))
+    (length l.windows.items ≡ l.last-index) × ((b : ℕ) → b < l.last-index → FirstSpent (g.B.Binder.bound l.binder) js (at js b) (get_or l.windows.items b None))
