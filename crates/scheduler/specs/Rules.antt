@@ -9,7 +9,7 @@ use Rattle.scheduler.specs.declared.calls.Event.{Event}
 use Rattle.scheduler.specs.declared.calls.Event.TheVariants.{Arrived, Finished, Ticked, Refused}
 use Rattle.scheduler.specs.History.{History, Fate, clock, count, job, units, fate, Cuts, Counts, load}
 use Rattle.scheduler.specs.History.Fate.{pending, done, cut}
-use Rattle.scheduler.specs.Order.{Precedes, FirstOf}
+use Rattle.scheduler.specs.Order.{FirstOf}
 use Rattle.scheduler.specs.Reasons.{arrive_reason, finish_reason, tick_reason}
 use Rattle.scheduler.specs.Windows.{Free, Spent, Ready, Held, FreeAtJobs}
 
@@ -40,10 +40,6 @@ finish_refusal p h n = finish_reason (admitted p) (count h) n (is_pending (fate 
 
 abbrev pub tick_refusal : Plan → History → Option CallRefusal
 tick_refusal p h = tick_reason (admitted p) (clock h)
-
--- job n goes before job m
-abbrev pub GoesBefore : History → ℕ → ℕ → Type 0
-GoesBefore h n m = Precedes (job h) n m
 
 -- the job that runs is ready and goes before every other one that is; none runs only where none is ready
 abbrev pub RunsFirst : Plan → History → Option ℕ → Type 0
