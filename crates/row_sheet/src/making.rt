@@ -71,7 +71,7 @@ impl RowSheet {
         ensures { sheet_rows result ≡ rows.now }
     {
         let len = rows.len();
-        let mut held = RowSheet::BUILT_IN.rows;
+        let mut held = [Row::default(); 8];
         held[0..len].copy_from_slice(rows);
         RowSheet { rows: held, len }
     }

@@ -109,7 +109,8 @@ fn judge_tasks(tasks: &[Task]) -> Result<(), MakeRefusal>
     }
 }
 
-// Whether a task whose row this is would need a ninth row or a seventeenth copy.
+// Whether a task whose row this is would need a ninth row or a seventeenth copy. By the copies of at most eight rows, as `no_room`
+// says it: a search would answer whether there is such a row, and would still have to ask for its copies.
 fn is_crowded(row: &Row, rows: &[Row]) -> bool
     requires { length rows.now ≤ 8 }
     ensures { result ≡ no_room (copies_of row.now rows.now) (length rows.now) }
