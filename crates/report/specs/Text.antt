@@ -1,16 +1,20 @@
-use Rattle.std.specs.Prelude.{◌≡◌, ℕ, ◌+◌, ◌-◌, List, [], ◌∷◌, ◌++◌, length, Ok, Err, codes, decimal, Result}
+use Rattle.std.specs.Prelude.{◌≡◌, ℕ, ◌+◌, ◌-◌, List, [], ◌∷◌, ◌++◌, length, Ok, Err, OnOk, codes, decimal, string_bytes, Result, String}
 use Rattle.std.specs.List.{flat_map}
 use Rattle.sheets.specs.declared.row.Row.{Row}
 use Rattle.sheets.specs.declared.line.Line.{Line}
 use Rattle.sheets.specs.declared.fault.FileFault.{FileFault}
 use Rattle.demand.specs.declared.verdict.TestRefusal.{TestRefusal}
-use Rattle.demand.specs.declared.verdict.TestRefusal.TheVariants.{DemandExceeds, GainsExceed, SheetCount}
+use Rattle.demand.specs.declared.verdict.TestRefusal.TheVariants.{DemandExceeds, GainsExceed}
 use Rattle.sheets.specs.Faults.{fault_numbers, fault_words}
 use Rattle.sheets.specs.Rows.{rows_gain, row_words}
 use Rattle.sheets.specs.Lines.{line_gain, line_words}
 use Rattle.sheets.specs.Sheets.{Declaration, rows, line, component_bound, component_gain}
 use Rattle.demand.specs.Verdicts.{refusal_numbers, refusal_words}
 use Rattle.demand.specs.Admission.{total, demand, admission, Tightest}
+
+-- without a failure, the new text is the old one with more behind it
+abbrev pub Appends : {T E A : Type 0} → String A → String A → Result T E → List ℕ → Type 0
+Appends old new result more = OnOk result (string_bytes new ≡ string_bytes old ++ more)
 
 -- the line for a fault: its number, its place, its record and what is wrong
 abbrev pub fault_line : FileFault → List ℕ
@@ -47,15 +51,11 @@ least_line l free goes_on = codes "least slack " ++ (decimal free ++ (codes " at
 abbrev pub excess_line : ℕ → ℕ → List ℕ
 excess_line l excess = codes "exceeded by " ++ (decimal excess ++ (codes " at length " ++ (decimal l ++ codes "\n")))
 
--- the line on the slack, where the test refuses the binder and where it admits it
-abbrev pub refused_slack_line : TestRefusal → (ℕ → ℕ) → ℕ → ℕ → List ℕ
-refused_slack_line (DemandExceeds x) demanded l free = excess_line x (demanded x - x)
-refused_slack_line GainsExceed demanded l free = least_line l free (codes ", and it falls without end")
-refused_slack_line SheetCount demanded l free = least_line l free (codes "")
-
+-- the line on the slack, by the admission test's verdict
 abbrev pub slack_line : Result (Unit {0}) TestRefusal → (ℕ → ℕ) → ℕ → ℕ → List ℕ
-slack_line (Ok _) demanded l free = least_line l free (codes "")
-slack_line (Err e) demanded l free = refused_slack_line e demanded l free
+slack_line (Err (DemandExceeds x)) demanded l free = excess_line x (demanded x - x)
+slack_line (Err GainsExceed) demanded l free = least_line l free (codes ", and it falls without end")
+slack_line verdict demanded l free = least_line l free (codes "")
 
 abbrev pub verdict_line : Result (Unit {0}) TestRefusal → List ℕ
 verdict_line (Ok _) = codes "admitted\n"

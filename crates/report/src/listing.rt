@@ -1,8 +1,8 @@
-ghost use Rattle.std.specs.Prelude.{◌≡◌, ◌++◌, map, OnOk, string_bytes};
+ghost use Rattle.std.specs.Prelude.{map};
 ghost use Rattle.sheets.specs.Sheets.{rows, line};
 ghost use Rattle.row_sheet.specs.RowSheets.{sheet_rows};
 ghost use Rattle.sheet_binder.specs.Declarations.{declared};
-ghost use Rattle.report.specs.Text.{sheet_text, sheets_text};
+ghost use Rattle.report.specs.Text.{Appends, sheet_text, sheets_text};
 
 use line_sheet::LineSheet;
 use row_sheet::RowSheet;
@@ -12,7 +12,7 @@ use std::fmt::Write;
 
 // Appends a sheet of rows: its index, its kind and its gain, then its rows.
 fn write_rows(text: &mut String, index: usize, sheet: &RowSheet) -> Result<(), AllocError>
-    ensures { OnOk result (string_bytes text.new ≡ string_bytes text.old ++ sheet_text index (rows (sheet_rows sheet.now))) }
+    ensures { Appends text.old text.new result (sheet_text index (rows (sheet_rows sheet.now))) }
 {
     let gain = sheet.gain_units();
     writeln!(text, "sheet {index}: rows, gain {gain}")?;
@@ -24,7 +24,7 @@ fn write_rows(text: &mut String, index: usize, sheet: &RowSheet) -> Result<(), A
 
 // Appends a line: its index, its kind and its gain, then its fields.
 fn write_line(text: &mut String, index: usize, sheet: &LineSheet) -> Result<(), AllocError>
-    ensures { OnOk result (string_bytes text.new ≡ string_bytes text.old ++ sheet_text index (line sheet.now.line)) }
+    ensures { Appends text.old text.new result (sheet_text index (line sheet.now.line)) }
 {
     let gain = sheet.gain_units();
     let line = sheet.line();
@@ -33,7 +33,7 @@ fn write_line(text: &mut String, index: usize, sheet: &LineSheet) -> Result<(), 
 }
 
 fn write_sheet(text: &mut String, index: usize, sheet: &Sheet) -> Result<(), AllocError>
-    ensures { OnOk result (string_bytes text.new ≡ string_bytes text.old ++ sheet_text index (declared sheet.now)) }
+    ensures { Appends text.old text.new result (sheet_text index (declared sheet.now)) }
 {
     match sheet {
         Sheet::Rows(sheet) => write_rows(text, index, sheet),
@@ -43,7 +43,7 @@ fn write_sheet(text: &mut String, index: usize, sheet: &Sheet) -> Result<(), All
 
 // Appends the sheets in order, numbered from 0.
 pub(crate) fn write_sheets(text: &mut String, sheets: &[Sheet]) -> Result<(), AllocError>
-    ensures { OnOk result (string_bytes text.new ≡ string_bytes text.old ++ sheets_text 0 (map declared sheets.now)) }
+    ensures { Appends text.old text.new result (sheets_text 0 (map declared sheets.now)) }
 {
     for (index, sheet) in sheets.iter().enumerate() {
         write_sheet(text, index, sheet)?;

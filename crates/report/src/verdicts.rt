@@ -1,36 +1,13 @@
-ghost use Rattle.std.specs.Prelude.{◌≡◌, ◌++◌, length, OnOk, string_bytes};
+ghost use Rattle.std.specs.Prelude.{length};
 ghost use Rattle.demand.specs.Admission.{demand};
 ghost use Rattle.sheets.specs.Sheets.{component_bound};
 ghost use Rattle.sheet_binder.specs.Declarations.{declarations};
-ghost use Rattle.report.specs.Text.{refused_slack_line, slack_line, verdict_line};
+ghost use Rattle.report.specs.Text.{Appends, slack_line, verdict_line};
 
 use demand::{Slack, TestRefusal, total_demand};
 use sheet_binder::SheetBinder;
 use std::alloc::AllocError;
 use std::fmt::Write;
-
-// Appends the line on the slack of a binder that is refused.
-fn write_refused_slack(
-    text: &mut String,
-    refusal: &TestRefusal,
-    binder: &SheetBinder,
-    least: Slack,
-) -> Result<(), AllocError>
-    ensures { OnOk result (string_bytes text.new ≡ string_bytes text.old ++ refused_slack_line refusal.now (demand (length (declarations binder.now)) (component_bound (declarations binder.now))) least.length least.free) }
-{
-    let Slack { length, free } = least;
-    match *refusal {
-        TestRefusal::DemandExceeds(at) => {
-            let excess = total_demand(binder, at).saturating_sub(u64::from(at));
-            writeln!(text, "exceeded by {excess} at length {at}")
-        }
-        TestRefusal::GainsExceed => writeln!(
-            text,
-            "least slack {free} at length {length}, and it falls without end"
-        ),
-        TestRefusal::SheetCount => writeln!(text, "least slack {free} at length {length}"),
-    }
-}
 
 // Appends the line on the least slack, or on the excess.
 pub(crate) fn write_slack(
@@ -39,12 +16,21 @@ pub(crate) fn write_slack(
     binder: &SheetBinder,
     least: Slack,
 ) -> Result<(), AllocError>
-    ensures { OnOk result (string_bytes text.new ≡ string_bytes text.old ++ slack_line verdict (demand (length (declarations binder.now)) (component_bound (declarations binder.now))) least.length least.free) }
+    ensures { Appends text.old text.new result (slack_line verdict (demand (length (declarations binder.now)) (component_bound (declarations binder.now))) least.length least.free) }
 {
     let Slack { length, free } = least;
     match verdict {
-        Ok(()) => writeln!(text, "least slack {free} at length {length}"),
-        Err(refusal) => write_refused_slack(text, &refusal, binder, least),
+        Err(TestRefusal::DemandExceeds(at)) => {
+            let excess = total_demand(binder, at).saturating_sub(u64::from(at));
+            writeln!(text, "exceeded by {excess} at length {at}")
+        }
+        Err(TestRefusal::GainsExceed) => writeln!(
+            text,
+            "least slack {free} at length {length}, and it falls without end"
+        ),
+        Ok(()) | Err(TestRefusal::SheetCount) => {
+            writeln!(text, "least slack {free} at length {length}")
+        }
     }
 }
 
@@ -53,7 +39,7 @@ pub(crate) fn write_verdict(
     text: &mut String,
     verdict: Result<(), TestRefusal>,
 ) -> Result<(), AllocError>
-    ensures { OnOk result (string_bytes text.new ≡ string_bytes text.old ++ verdict_line verdict) }
+    ensures { Appends text.old text.new result (verdict_line verdict) }
 {
     match verdict {
         Ok(()) => writeln!(text, "admitted"),

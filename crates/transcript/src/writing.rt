@@ -1,6 +1,6 @@
-ghost use Rattle.std.specs.Prelude.{◌≡◌, ◌++◌, IfOk, OnOk, string_bytes};
+ghost use Rattle.std.specs.Prelude.{◌≡◌, IfOk, string_bytes};
 ghost use Rattle.std.specs.List.{flat_map};
-ghost use Rattle.transcript.specs.Text.{fault_line, refused_line, tick_line, event_line, unreadable_line};
+ghost use Rattle.transcript.specs.Text.{Appends, fault_line, refused_line, tick_line, event_line, unreadable_line};
 
 use demand::{Refusal, TestRefusal};
 use scheduler::{Event, Ticked};
@@ -26,7 +26,7 @@ pub(crate) fn line_for_refusal(heap: Global, refusal: &TestRefusal) -> Result<St
 
 // Appends the line for an event.
 fn write_event(text: &mut String, event: &Event) -> Result<(), AllocError>
-    ensures { OnOk result (string_bytes text.new ≡ string_bytes text.old ++ event_line event.now) }
+    ensures { Appends text.old text.new result (event_line event.now) }
 {
     match *event {
         Event::Arrived { job, .. } => writeln!(text, "job {job}"),
@@ -54,7 +54,7 @@ fn write_event(text: &mut String, event: &Event) -> Result<(), AllocError>
 
 // Appends a line for each event.
 pub(crate) fn write_events(text: &mut String, events: &[Event]) -> Result<(), AllocError>
-    ensures { OnOk result (string_bytes text.new ≡ string_bytes text.old ++ flat_map event_line events.now) }
+    ensures { Appends text.old text.new result (flat_map event_line events.now) }
 {
     for event in events {
         write_event(text, event)?;
@@ -67,7 +67,7 @@ pub(crate) fn write_unreadable(
     text: &mut String,
     unreadable: Option<usize>,
 ) -> Result<(), AllocError>
-    ensures { OnOk result (string_bytes text.new ≡ string_bytes text.old ++ unreadable_line unreadable) }
+    ensures { Appends text.old text.new result (unreadable_line unreadable) }
 {
     match unreadable {
         Some(number) => writeln!(text, "line {number} unreadable"),
