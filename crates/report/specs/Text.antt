@@ -1,4 +1,4 @@
-use Rattle.std.specs.Prelude.{◌≡◌, ℕ, ◌+◌, ◌-◌, List, [], ◌∷◌, ◌++◌, length, Ok, Err, OnOk, codes, decimal, string_bytes, Result, String}
+use Rattle.std.specs.Prelude.{◌≡◌, ℕ, ◌+◌, ◌-◌, List, [], ◌∷◌, ◌++◌, length, Ok, Err, codes, decimal, Result}
 use Rattle.std.specs.List.{flat_map}
 use Rattle.sheets.specs.declared.row.Row.{Row}
 use Rattle.sheets.specs.declared.line.Line.{Line}
@@ -11,10 +11,6 @@ use Rattle.sheets.specs.Lines.{line_gain, line_words}
 use Rattle.sheets.specs.Sheets.{Declaration, rows, line, component_bound, component_gain}
 use Rattle.demand.specs.Verdicts.{refusal_numbers, refusal_words}
 use Rattle.demand.specs.Admission.{total, demand, admission, Tightest}
-
--- without a failure, the new text is the old one with more behind it
-abbrev pub Appends : {T E A : Type 0} → String A → String A → Result T E → List ℕ → Type 0
-Appends old new result more = OnOk result (string_bytes new ≡ string_bytes old ++ more)
 
 -- the line for a fault: its number, its place, its record and what is wrong
 abbrev pub fault_line : FileFault → List ℕ

@@ -2,7 +2,8 @@ ghost use Rattle.std.specs.Prelude.{map};
 ghost use Rattle.sheets.specs.Sheets.{rows, line};
 ghost use Rattle.row_sheet.specs.RowSheets.{sheet_rows};
 ghost use Rattle.sheet_binder.specs.Declarations.{declared};
-ghost use Rattle.report.specs.Text.{Appends, sheet_text, sheets_text};
+ghost use Rattle.sheets.specs.Texts.{Appends};
+ghost use Rattle.report.specs.Text.{sheet_text, sheets_text};
 
 use line_sheet::LineSheet;
 use row_sheet::RowSheet;

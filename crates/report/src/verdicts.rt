@@ -2,7 +2,8 @@ ghost use Rattle.std.specs.Prelude.{length};
 ghost use Rattle.demand.specs.Admission.{demand};
 ghost use Rattle.sheets.specs.Sheets.{component_bound};
 ghost use Rattle.sheet_binder.specs.Declarations.{declarations};
-ghost use Rattle.report.specs.Text.{Appends, slack_line, verdict_line};
+ghost use Rattle.sheets.specs.Texts.{Appends};
+ghost use Rattle.report.specs.Text.{slack_line, verdict_line};
 
 use demand::{Slack, TestRefusal, total_demand};
 use sheet_binder::SheetBinder;

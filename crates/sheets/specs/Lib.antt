@@ -5,3 +5,4 @@ pub mod Lines
 pub mod Over
 pub mod Rows
 pub mod Sheets
+pub mod Texts

@@ -1,5 +1,5 @@
 -- What is printed: the line for each event, and the whole text for a file and an input.
-use Rattle.std.specs.Prelude.{◌≡◌, ℕ, List, [], ◌++◌, map, reverse, length, Some, None, Ok, Err, OnOk, codes, decimal, string_bytes, Option, Result, String}
+use Rattle.std.specs.Prelude.{◌≡◌, ℕ, List, [], ◌++◌, map, reverse, length, Some, None, Ok, Err, codes, decimal, Option, Result}
 use Rattle.std.specs.List.{flat_map}
 use Rattle.sheets.specs.declared.fault.FileFault.{FileFault}
 use Rattle.demand.specs.declared.verdict.TestRefusal.{TestRefusal}
@@ -12,10 +12,6 @@ use Rattle.scheduler.specs.declared.calls.Event.TheVariants.{Arrived, Finished, 
 use Rattle.scheduler.specs.Numbers.{call_number}
 use Rattle.scheduler.specs.Rules.{Plan, call_of, Follows}
 use Rattle.transcript.specs.Input.{lines, calls_in, unreadable_from}
-
--- without a failure, the new text is the old one with more behind it
-abbrev pub Appends : {T E A : Type 0} → String A → String A → Result T E → List ℕ → Type 0
-Appends old new result more = OnOk result (string_bytes new ≡ string_bytes old ++ more)
 
 -- the number and the place of a file's fault
 abbrev pub fault_line : FileFault → List ℕ

@@ -1,6 +1,7 @@
 ghost use Rattle.std.specs.Prelude.{◌≡◌, IfOk, string_bytes};
 ghost use Rattle.std.specs.List.{flat_map};
-ghost use Rattle.transcript.specs.Text.{Appends, fault_line, refused_line, tick_line, event_line, unreadable_line};
+ghost use Rattle.sheets.specs.Texts.{Appends};
+ghost use Rattle.transcript.specs.Text.{fault_line, refused_line, tick_line, event_line, unreadable_line};
 
 use demand::{Refusal, TestRefusal};
 use scheduler::{Event, Ticked};

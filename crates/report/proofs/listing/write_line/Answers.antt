@@ -1,6 +1,7 @@
 use Rattle.std.proofs.Common.{◌≡◌, ◌++◌, codes, string_bytes, rules}
 use Rattle.sheets.specs.Lines.{line_gain}
-use Rattle.report.specs.Text.{Appends, sheet_head, line_line}
+use Rattle.sheets.specs.Texts.{Appends}
+use Rattle.report.specs.Text.{sheet_head, line_line}
 use Rattle.report.proofs.Texts.{second_part}
 use Rattle.report.proofs.listing.write_line.Goals as goal
 

@@ -3,7 +3,8 @@ use Rattle.demand.specs.declared.verdict.TestRefusal.TheVariants.{DemandExceeds,
 use Rattle.demand.specs.Admission.{demand}
 use Rattle.sheets.specs.Sheets.{component_bound}
 use Rattle.sheet_binder.specs.Declarations.{declarations}
-use Rattle.report.specs.Text.{Appends, excess_line}
+use Rattle.sheets.specs.Texts.{Appends}
+use Rattle.report.specs.Text.{excess_line}
 use Rattle.report.proofs.verdicts.write_slack.Goals as goal
 
 pub returns-in-Err-DemandExceeds : goal.returns-in-Err-DemandExceeds
