@@ -41,7 +41,7 @@ impl<'a> Record<'a> {
         Ok(Record { file, start })
     }
 
-    // Where in the file the record begins.
+    // Where in the file the record begins, by `as` once more.
     fn place(&self) -> usize
         ensures { result ≡ self.now.start.place }
     {
