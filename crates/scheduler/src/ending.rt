@@ -5,19 +5,23 @@ ghost use Rattle.scheduler.specs.Steps.{ended, ending_answer, is_due, cut_at, cu
 use crate::calls::CallRefusal;
 use crate::job::{Ending, Job, JobStatus};
 
-// Ends an open job, and answers the units that it has used; a job that has ended is refused and stays.
+// Ends an open job, and answers the units that it has used; a job that has ended is refused and stays. One `match` on how the job stands
+// and what ends it, so that every case is seen.
 pub(crate) fn end_job(job: &mut Job, ending: Ending) -> Result<u32, CallRefusal>
     ensures answer { result ≡ ending_answer job.old }
     ensures after { job.new ≡ ended ending job.old }
 {
-    if !job.is_open() {
-        return Err(CallRefusal::NotOpen);
+    match (job.status, ending) {
+        (JobStatus::Open, Ending::Finish) => {
+            job.status = JobStatus::Finished;
+            Ok(job.used)
+        }
+        (JobStatus::Open, Ending::Due) => {
+            job.status = JobStatus::Cut;
+            Ok(job.used)
+        }
+        (JobStatus::Empty | JobStatus::Finished | JobStatus::Cut, _) => Err(CallRefusal::NotOpen),
     }
-    job.status = match ending {
-        Ending::Finish => JobStatus::Finished,
-        Ending::Due => JobStatus::Cut,
-    };
-    Ok(job.used)
 }
 
 // Cuts the job if it is open and due by the clock; whether it did.
