@@ -47,7 +47,7 @@ fn push_record<S: SheetKind>(sheet: &S, file: &mut FileBytes)
     push_words(&fields, file);
 }
 
-// Appends the record of a sheet.
+// Appends the record of a sheet. The kinds are two types, with a line for each.
 fn push_sheet(sheet: &Sheet, file: &mut FileBytes)
     requires { array_vec_len file.old + RECORD_ROOM ≤ FILE_ROOM }
     ensures items { file.new.items ≡ file.old.items ++ record_bytes (declared sheet.now) }

@@ -25,7 +25,8 @@ pub(crate) fn sheet_of_line(line: Line, start: RecordStart) -> Result<LineSheet,
 }
 
 impl LineSheet {
-    // Makes this the sheet of the given line, or refuses its fields as a file of that record alone.
+    // Makes this the sheet of the given line, or refuses its fields as a file of that record alone. A line comes as a
+    // value and rows as a slice, so each kind has its own.
     pub fn make(&mut self, line: Line) -> Result<(), FileFault>
         ensures answer { result ≡ line_judged line (record { index = 0; place = 0 }) }
         ensures made { result ≡ Ok tt → self.new.line ≡ line }

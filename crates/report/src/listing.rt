@@ -33,6 +33,7 @@ fn write_line(text: &mut String, index: usize, sheet: &LineSheet) -> Result<(), 
     writeln!(text, "  {line}")
 }
 
+// Appends a sheet of either kind: two types, with a line for each.
 fn write_sheet(text: &mut String, index: usize, sheet: &Sheet) -> Result<(), AllocError>
     ensures { Appends text.old text.new result (sheet_text index (declared sheet.now)) }
 {

@@ -3,8 +3,8 @@ ghost use Rattle.sheets.specs.Rows.{sound_rows};
 
 use sheets::Row;
 
-// A sheet of one to eight rows that obey their ranges and stand in order. Slots at and past `len` have no meaning. An array with
-// a length, since a sheet is `Copy` and the library's `ArrayVec` is not.
+// A sheet of one to eight rows that obey their ranges and stand in order. Slots at and past `len` have no meaning, so that
+// equality is not derived. An array with a length, since a sheet is `Copy` and the library's `ArrayVec` is not.
 #[derive(Clone, Copy)]
 pub struct RowSheet {
     pub(crate) rows: [Row; 8],

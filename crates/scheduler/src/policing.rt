@@ -9,6 +9,7 @@ use arrayvec::ArrayVec;
 use demand::Binder;
 
 // The jobs of a table by their numbers: each is due after its arrival, and none arrived before one of a lower number.
+// The binder is passed beside it, as a roster is of jobs alone.
 #[derive(Clone, Copy)]
 pub(crate) struct Roster<'a> {
     pub(crate) jobs: &'a [Job],

@@ -119,7 +119,7 @@ fn is_crowded(row: &Row, rows: &[Row]) -> bool
     copies >= 16 || (copies == 0 && rows.len() >= 8)
 }
 
-// The rows of tasks that are in range.
+// The rows of tasks that are in range. What is promised of them is handed on to `rows_of_tasks` and to the sheet that is made of them.
 fn group_tasks(tasks: &[Task]) -> Result<ArrayVec<Row, 8>, MakeRefusal>
     requires { tasks_in_range tasks.now ≡ Ok tt }
     ensures answer { meaning (λ _. tt {0}) result ≡ refused_by NoRoom (first_where (crowded (map rounded tasks.now)) 0 (length tasks.now)) }

@@ -37,7 +37,8 @@ impl<B: Binder> Scheduler<B> {
         }
     }
 
-    // A job of the component arrives, due `deadline` ticks from now. The answer is its number.
+    // A job of the component arrives, due `deadline` ticks from now. The answer is its number. What every call promises its caller
+    // stands on each of the four.
     pub fn arrive(&mut self, component: u32, deadline: u32) -> Result<usize, CallRefusal>
         ensures step { Arrives B.Binder self.old component deadline result self.new }
         ensures same_binder { SameBinder self.old self.new }
