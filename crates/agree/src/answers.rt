@@ -1,9 +1,7 @@
 // Calls of a scheduler, each with the answer that the reference gives.
 use crate::words::{FromWords, Words};
-use anyhow::{Context, bail};
 use demand::Refusal;
 use scheduler::{Call, CallRefusal, Event, Ticked};
-use std::iter::repeat_n;
 
 // The refusals that the reference gives by their numbers.
 const REFUSALS: [CallRefusal; 7] = [
@@ -16,98 +14,97 @@ const REFUSALS: [CallRefusal; 7] = [
     CallRefusal::NotOpen,
 ];
 
-// A call with its answer, which it gets so many times in a row.
+// A call that is made so many times, and the answer that it gets each time; no answer where the words give one that no such call gets.
 #[derive(Clone, Copy)]
-struct Step {
-    event: Event,
-    times: usize,
+pub(crate) struct Step {
+    pub(crate) call: Call,
+    pub(crate) times: u64,
+    pub(crate) answer: Option<Event>,
 }
 
-// The call with the answer that the next words say.
-fn read_answer(call: Call, words: &mut Words) -> anyhow::Result<Event> {
-    match (call, words.word()?) {
-        (
-            Call::Arrive {
-                component,
-                deadline,
-            },
-            "j",
-        ) => Ok(Event::Arrived {
-            component,
-            deadline,
-            job: words.number()?,
-        }),
-        (Call::Finish { job }, "u") => Ok(Event::Finished {
-            job,
-            units: words.number()?,
-        }),
-        (Call::Tick, "r") => {
-            let ran = Some(words.number()?);
-            read_ticked(ran, words)
+// The next call, and how many times it is made.
+fn read_call(words: &mut Words) -> (Call, u64) {
+    match words.letter() {
+        b'a' => {
+            let component = words.middle();
+            let deadline = words.middle();
+            (
+                Call::Arrive {
+                    component,
+                    deadline,
+                },
+                1,
+            )
         }
-        (Call::Tick, "i") => read_ticked(None, words),
-        (_, "x") => Ok(Event::Refused {
-            call,
-            why: CallRefusal::from_words(words)?,
-        }),
-        _ => bail!("an answer is of no known form"),
+        b'f' => (Call::Finish { job: words.long() }, 1),
+        b'm' => (Call::Tick, words.number()),
+        _ => (Call::Tick, 1),
     }
 }
 
-// What a tick did, behind the job that it ran.
-fn read_ticked(ran: Option<usize>, words: &mut Words) -> anyhow::Result<Event> {
-    Ok(Event::Ticked(Ticked {
-        ran,
-        held: words.number()?,
-        cut: words.number()?,
-    }))
+// An arrive's answer, the job of that number.
+fn arrived(call: Call, job: usize) -> Option<Event> {
+    match call {
+        Call::Arrive {
+            component,
+            deadline,
+        } => Some(Event::Arrived {
+            component,
+            deadline,
+            job,
+        }),
+        Call::Finish { .. } | Call::Tick => None,
+    }
 }
 
-impl FromWords for CallRefusal {
-    fn from_words(words: &mut Words) -> anyhow::Result<CallRefusal> {
-        let number: u32 = words.number()?;
-        REFUSALS
-            .into_iter()
-            .find(|why| why.number() == number)
-            .context("no refusal has that number")
+// A finish's answer, the units of its job.
+fn finished(call: Call, units: u32) -> Option<Event> {
+    match call {
+        Call::Finish { job } => Some(Event::Finished { job, units }),
+        Call::Arrive { .. } | Call::Tick => None,
+    }
+}
+
+// A tick's answer, behind the job that ran.
+fn ticked(call: Call, ran: Option<usize>, words: &mut Words) -> Option<Event> {
+    let held = words.long();
+    let cut = words.long();
+    match call {
+        Call::Tick => Some(Event::Ticked(Ticked { ran, held, cut })),
+        Call::Arrive { .. } | Call::Finish { .. } => None,
+    }
+}
+
+// The refusal of that number.
+fn refused(call: Call, number: u32) -> Option<Event> {
+    let why = REFUSALS.into_iter().find(|why| why.number() == number)?;
+    Some(Event::Refused { call, why })
+}
+
+// The answer to the call that the next words say; a word that begins none is read as a refusal.
+fn read_answer(call: Call, words: &mut Words) -> Option<Event> {
+    match words.letter() {
+        b'j' => arrived(call, words.long()),
+        b'u' => finished(call, words.middle()),
+        b'r' => {
+            let ran = Some(words.long());
+            ticked(call, ran, words)
+        }
+        b'i' => ticked(call, None, words),
+        _ => refused(call, words.middle()),
     }
 }
 
 impl FromWords for Step {
-    fn from_words(words: &mut Words) -> anyhow::Result<Step> {
-        let (call, times) = match words.word()? {
-            "a" => {
-                let component = words.number()?;
-                let deadline = words.number()?;
-                (
-                    Call::Arrive {
-                        component,
-                        deadline,
-                    },
-                    1,
-                )
-            }
-            "f" => (
-                Call::Finish {
-                    job: words.number()?,
-                },
-                1,
-            ),
-            "m" => (Call::Tick, words.number()?),
-            "t" => (Call::Tick, 1),
-            _ => bail!("a call is of no known form"),
-        };
-        let event = read_answer(call, words)?;
-        Ok(Step { event, times })
-    }
-}
+    const MOST: u64 = 100_000;
 
-// The history that a line says, call by call.
-pub(crate) fn read_events(words: &mut Words) -> anyhow::Result<Vec<Event>> {
-    let steps: Vec<Step> = words.list()?;
-    let mut events = Vec::new(words.heap);
-    for step in &steps {
-        events.extend(repeat_n(step.event, step.times))?;
+    fn from_words(words: &mut Words) -> Step {
+        let (call, times) = read_call(words);
+        let answer = read_answer(call, words);
+        Step {
+            call,
+            times,
+            answer,
+        }
     }
-    Ok(events)
 }

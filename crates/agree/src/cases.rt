@@ -1,63 +1,63 @@
 // One case: what the reference says of a file, a task list, a history or what `sit` prints, and what the library does with it.
 use crate::histories::history_agrees;
 use crate::words::{FromWords, Words};
-use anyhow::bail;
 use binder_file::{binder_verdict, read_file, write_file};
 use demand::Binder;
 use row_sheet::RowSheet;
 use sheet_binder::SheetBinder;
 use sheets::Row;
+use std::alloc::AllocError;
 use tasks::Task;
 use transcript::transcript;
 
-// Whether the library agrees with the line, all of whose words have to be read.
-pub(crate) fn agrees(words: &mut Words) -> anyhow::Result<bool> {
-    // A word says what form the words behind it have, so words are matched on, here and in the other readers.
-    let agreed = match words.word()? {
-        "read" => read_agrees(words)?,
-        "boot" => boot_agrees(words)?,
-        "ask" => ask_agrees(words)?,
-        "write" => write_agrees(words)?,
-        "make" => make_agrees(words)?,
-        "history" => history_agrees(words)?,
-        "sit" => sit_agrees(words)?,
-        _ => bail!("a case is of no known kind"),
-    };
-    words.finish()?;
-    Ok(agreed)
+// Whether the library agrees with the next line.
+pub(crate) fn agrees(words: &mut Words) -> Result<bool, AllocError> {
+    // A letter says what form the words behind it have, so letters are matched on, here and in the other readers.
+    match words.letter() {
+        b'r' => read_agrees(words),
+        b'b' => boot_agrees(words),
+        b'a' => ask_agrees(words),
+        b'w' => write_agrees(words),
+        b'm' => make_agrees(words),
+        b'h' => history_agrees(words),
+        b's' => sit_agrees(words),
+        _ => Ok(false),
+    }
 }
 
-fn read_agrees(words: &mut Words) -> anyhow::Result<bool> {
+fn read_agrees(words: &mut Words) -> Result<bool, AllocError> {
     let file = words.bytes()?;
-    let said = match (words.number()?, words.number()?, words.number()?) {
+    let said = match (words.number(), words.number(), words.number()) {
         (0, 0, 0) => Ok(()),
         refusal => Err(refusal),
     };
     let mut binder = SheetBinder::new();
-    let answer = read_file(&mut binder, &file).map_err(|fault| fault.numbers());
+    let answer = read_file(&mut binder, &file).map_err(|fault| {
+        let (number, index, place) = fault.numbers();
+        (u64::from(number), u64::from(index), place)
+    });
     Ok(answer == said)
 }
 
-fn boot_agrees(words: &mut Words) -> anyhow::Result<bool> {
+fn boot_agrees(words: &mut Words) -> Result<bool, AllocError> {
     let file = words.bytes()?;
-    let said: u32 = words.number()?;
-    Ok(binder_verdict(&file) == said)
+    Ok(words.number() == u64::from(binder_verdict(&file)))
 }
 
-fn ask_agrees(words: &mut Words) -> anyhow::Result<bool> {
+fn ask_agrees(words: &mut Words) -> Result<bool, AllocError> {
     let file = words.bytes()?;
-    let k = words.number()?;
-    let length = words.number()?;
-    let said = (words.number()?, words.number()?);
+    let k = words.middle();
+    let length = words.middle();
+    let said = (words.number(), words.number());
     let mut binder = SheetBinder::new();
     Ok(read_file(&mut binder, &file).is_ok() && (binder.bound(k, length), binder.gain(k)) == said)
 }
 
 // The buffer has to begin with the file where it is written, and to be as it was behind it.
-fn write_agrees(words: &mut Words) -> anyhow::Result<bool> {
+fn write_agrees(words: &mut Words) -> Result<bool, AllocError> {
     let file = words.bytes()?;
-    let room: u16 = words.number()?;
-    let said = match (words.number()?, words.number()?) {
+    let room = usize::from(words.short());
+    let said = match (words.number(), words.number()) {
         (0, count) => Ok(count),
         refusal => Err(refusal),
     };
@@ -65,8 +65,14 @@ fn write_agrees(words: &mut Words) -> anyhow::Result<bool> {
     if read_file(&mut binder, &file).is_err() {
         return Ok(false);
     }
-    let mut buffer = vec![in words.heap; 0xAA; usize::from(room)]?;
-    let answer = write_file(&binder, &mut buffer).map_err(|refusal| refusal.numbers());
+    let mut buffer = vec![in words.heap; 0xAA; room]?;
+    // `as` from a `usize` to a `u64`, which no `From` takes, here and below
+    let answer = write_file(&binder, &mut buffer)
+        .map(|count| count as u64)
+        .map_err(|refusal| {
+            let (number, needed) = refusal.numbers();
+            (u64::from(number), needed as u64)
+        });
     let written = if answer.is_ok() { file.as_slice() } else { &[] };
     let kept = buffer
         .strip_prefix(written)
@@ -75,43 +81,48 @@ fn write_agrees(words: &mut Words) -> anyhow::Result<bool> {
 }
 
 impl FromWords for Task {
-    fn from_words(words: &mut Words) -> anyhow::Result<Task> {
-        Ok(Task {
-            period: words.number()?,
-            deadline: words.number()?,
-            budget: words.number()?,
-        })
+    const MOST: u64 = 1000;
+
+    fn from_words(words: &mut Words) -> Task {
+        Task {
+            period: words.short(),
+            deadline: words.short(),
+            budget: words.short(),
+        }
     }
 }
 
 impl FromWords for Row {
-    fn from_words(words: &mut Words) -> anyhow::Result<Row> {
-        Ok(Row {
-            period: words.number()?,
-            deadline: words.number()?,
-            budget: words.number()?,
-            copies: words.number()?,
-        })
+    const MOST: u64 = 1000;
+
+    fn from_words(words: &mut Words) -> Row {
+        Row {
+            period: words.short(),
+            deadline: words.short(),
+            budget: words.short(),
+            copies: words.short(),
+        }
     }
 }
 
-fn make_agrees(words: &mut Words) -> anyhow::Result<bool> {
+fn make_agrees(words: &mut Words) -> Result<bool, AllocError> {
     let tasks: Vec<Task> = words.list()?;
     let mut sheet = RowSheet::BUILT_IN;
-    let answer = sheet
-        .make_from_tasks(&tasks)
-        .map_err(|refusal| refusal.numbers());
-    Ok(match words.number()? {
+    let answer = sheet.make_from_tasks(&tasks).map_err(|refusal| {
+        let (number, index) = refusal.numbers();
+        (u64::from(number), index as u64)
+    });
+    Ok(match words.number() {
         0 => {
             let rows: Vec<Row> = words.list()?;
             answer.is_ok() && sheet.rows() == rows.as_slice()
         }
-        number => answer == Err((number, words.number()?)),
+        number => answer == Err((number, words.number())),
     })
 }
 
 // The file and the input of `sit`, and what it prints.
-fn sit_agrees(words: &mut Words) -> anyhow::Result<bool> {
+fn sit_agrees(words: &mut Words) -> Result<bool, AllocError> {
     let file = words.bytes()?;
     let input = words.bytes()?;
     let said = words.bytes()?;

@@ -7,19 +7,22 @@ mod cases;
 mod histories;
 mod words;
 
-use anyhow::Context;
 use cases::agrees;
 use std::fs;
 use words::Words;
 
 // Says how many cases of a file agree and how many do not; those that do not are named.
 fn compare(rt: &HostRuntime, name: &str, cases: &str) -> anyhow::Result<()> {
-    let text = fs::read_to_string(rt, name)?;
+    let text = fs::read(rt, name)?;
+    let mut words = Words::new(rt.alloc(), &text);
     let mut agreed = 0u64;
     let mut others = 0u64;
-    for (line, case) in (1u64..).zip(text.lines()) {
-        let place = format_args!("{name}: line {line}");
-        if agrees(&mut Words::new(rt.alloc(), case)).context(place)? {
+    // no iterator over lines: words are read on wherever a line ends, and at most so many cases are
+    for line in 1..1_000_000u64 {
+        if words.is_at_end() {
+            break;
+        }
+        if agrees(&mut words)? {
             agreed = agreed.saturating_add(1);
         } else {
             others = others.saturating_add(1);
