@@ -1,5 +1,5 @@
-use Rattle.std.proofs.Common.{◌≢◌, take, ◌≡◌, ℕ, zero, suc, ◌+◌, ◌≤◌, List, [], ◌∷◌, ◌++◌, map, length, Ok, Result, sym, refl, ap, ◌∙◌, arith}
-use Rattle.std.specs.List.{AllByRecursion}
+use Rattle.std.proofs.Common.{◌≢◌, ◌<◌, get_or, take, ◌≡◌, ℕ, zero, suc, ◌+◌, ◌≤◌, List, [], ◌∷◌, ◌++◌, map, length, Ok, Result, sym, refl, ap, ◌∙◌, arith}
+use Rattle.std.specs.List.{flat_map, AllByRecursion}
 use Rattle.std.proofs.lemmas.List.{take_at, length-take, append_assoc, append-nil, length-append, length-map}
 use Rattle.std.proofs.lemmas.Bool.{ne_eqb}
 use Rattle.sheets.specs.declared.fault.RecordStart.{RecordStart}
@@ -11,11 +11,25 @@ use Rattle.sheets.specs.Sheets.{Declaration}
 use Rattle.sheet_binder.specs.Declarations.{declared, sheets_of, declarations}
 use Rattle.sheet_binder.specs.declared.binder.SheetBinder.{SheetBinder}
 use Rattle.sheets.proofs.Faults.{then_ok}
+use Rattle.sheets.proofs.Filling.{joined_take_more, joined_take_le, joined_map}
 use Rattle.sheet_binder.specs.Sheets.{sheet_accepted}
 use Rattle.binder_file.specs.Format.{next_start, records_from, record_judged, decode, record_words, record_bytes}
 use Rattle.binder_file.specs.Writing.{encode}
 use Rattle.binder_file.proofs.Format.{records_ended, record_first, decode_some}
 use Rattle.binder_file.proofs.Words.{record_back, next_back, length_words}
+
+-- one sheet more
+pub encode_more : (ss : List Sheet) (i : ℕ) (s : Sheet) → i < length ss → s ≡ get_or ss i s → encode (map declared (take (i + 1) ss)) ≡ encode (map declared (take i ss)) ++ record_bytes (declared s)
+encode_more ss i s h e =
+    joined_map record_bytes declared (take (i + 1) ss) ∙ joined_take_more (λ x. record_bytes (declared x)) ss i s h
+    ∙ ap (λ (x : Sheet). flat_map (λ y. record_bytes (declared y)) (take i ss) ++ record_bytes (declared x)) (sym e)
+    ∙ ap (λ (l : List ℕ). l ++ record_bytes (declared s)) (sym (joined_map record_bytes declared (take i ss)))
+
+pub encode_front : (ss : List Sheet) (i : ℕ) → length (encode (map declared (take i ss))) ≤ length (encode (map declared ss))
+encode_front ss i =
+    let a = ap (λ (l : List ℕ). length l) (joined_map record_bytes declared (take i ss)) in
+    let b = ap (λ (l : List ℕ). length l) (joined_map record_bytes declared ss) in
+    omega (arith, a, b, joined_take_le (λ x. record_bytes (declared x)) ss i)
 
 -- a sheet that making accepts, wherever its record begins
 abbrev Accepted : Declaration → Type 0
@@ -48,8 +62,8 @@ some_bytes [] h = absurd (omega arith)
 some_bytes (s ∷ ss) h = omega (arith, length-append (record_bytes (declared s)) (encode (map declared ss)), length_words (record_words (declared s)))
 
 -- the file of one to eight sheets reads back as those sheets
-file_back : (ss : List Sheet) → 1 ≤ length ss → length ss ≤ 8 → decode (encode (map declared ss)) ≡ Ok (map declared ss)
-file_back ss low high =
+pub encode_back : (ss : List Sheet) → 1 ≤ length ss → length ss ≤ 8 → decode (encode (map declared ss)) ≡ Ok (map declared ss)
+encode_back ss low high =
     decode_some (encode (map declared ss)) (ne_eqb (length (encode (map declared ss))) 0 (λ z. omega (arith, z, some_bytes ss low)))
     ∙ records_back [] (map declared ss) (record { index = 0; place = 0 }) 8 refl (omega (arith, length-map ss declared)) (all_accepted ss)
 
@@ -57,4 +71,4 @@ file_back ss low high =
 pub buffer_back : (b : SheetBinder) (file behind : List ℕ) (count : ℕ) → length (sheets_of b) ≢ 0 → file ≡ encode (declarations b) → count ≡ length file → decode (take count (file ++ behind)) ≡ Ok (declarations b)
 buffer_back b file behind count some e n =
     ap decode (take_at file behind count (sym n) ∙ e)
-    ∙ file_back (sheets_of b) (omega arith) (omega (arith, b.few, length-take b.len b.sheets))
+    ∙ encode_back (sheets_of b) (omega arith) (omega (arith, b.few, length-take b.len b.sheets))

@@ -1,7 +1,7 @@
-use Rattle.std.proofs.Common.{◌⊎◌, inl, inr, ⊎_elim, ◌≡◌, ℕ, zero, suc, ◌+◌, ◌-◌, ◌*◌, ◌/◌, ◌<◌, ◌≤◌, Bool, cond, true, false, eqb, ltb, get_or, take, drop, List, [], ◌∷◌, ◌++◌, length, Ok, Err, Result, sym, refl, ap, ◌∙◌, add-one, arith}
+use Rattle.std.proofs.Common.{◌⊎◌, inl, inr, ⊎_elim, ◌≡◌, ℕ, zero, suc, ◌+◌, ◌-◌, ◌*◌, ◌/◌, ◌<◌, ◌≤◌, Bool, cond, true, false, eqb, ltb, get_or, take, drop, set, List, [], ◌∷◌, ◌++◌, length, Ok, Err, Result, sym, refl, ap, ◌∙◌, add-one, arith}
 use Rattle.std.proofs.lemmas.List.FromFn.{length-map-range_with_len, map-range_with_len_more}
 use Rattle.std.specs.Simd.{first_chunks}
-use Rattle.std.proofs.lemmas.List.{append_assoc, append-nil, drop-drop, length-take}
+use Rattle.std.proofs.lemmas.List.{append_assoc, append-nil, drop-drop, length-take, take_more_set}
 use Rattle.std.proofs.lemmas.Grind.{common_steps}
 use Rattle.std.proofs.lemmas.Bool.{cond-true, cond-false, lt-ltb, le-ltb, ltb-false, cases_Bool}
 use Rattle.sheets.specs.declared.fault.RecordStart.{RecordStart}
@@ -41,6 +41,10 @@ module _ (bs : List ℕ) (pairs : List (List ℕ)) (a m i : ℕ) (cut : pairs �
   pub fields_more : (fields : List ℕ) (w : ℕ) → fields ≡ fields_at bs a i → w ≡ get_or (get_or pairs i []) 0 0 + get_or (get_or pairs i []) 1 0 * 256 → fields ++ w ∷ [] ≡ fields_at bs a (i + 1)
   fields_more fields w e f =
       ap (λ (l : List ℕ). l ++ w ∷ []) e ∙ ap (λ (x : ℕ). fields_at bs a i ++ x ∷ []) (f ∙ field) ∙ sym (map-range_with_len_more (λ j. word_at bs (a + 2 * j)) 0 i i (omega arith))
+
+  -- and stands behind those before it
+  pub fields_stored : (words : List ℕ) (w : ℕ) → i < length words → take i words ≡ fields_at bs a i → w ≡ get_or (get_or pairs i []) 0 0 + get_or (get_or pairs i []) 1 0 * 256 → take (i + 1) (set words i w) ≡ fields_at bs a (i + 1)
+  fields_stored words w l e f = take_more_set words i w l ∙ fields_more (take i words) w e f
 
 -- a test that changes nothing
 cond_same : {X : Type 0} (b : Bool) (x y : X) → (b ≡ true → x ≡ y) → cond b x y ≡ y
@@ -100,7 +104,7 @@ carry before d (Ok ds) = ap Ok (sym (append_assoc before (d ∷ []) ds))
 carry before d (Err e) = refl
 
 -- the ninth record
-records_full : (bs : List ℕ) (start : RecordStart) (n : ℕ) → n ≡ 0 → start.place < length bs → records_from n bs start ≡ Err (RecordCount (spot start 0))
+pub records_full : (bs : List ℕ) (start : RecordStart) (n : ℕ) → n ≡ 0 → start.place < length bs → records_from n bs start ≡ Err (RecordCount (spot start 0))
 unfolding records_from
 records_full bs start n z h =
     ap (λ m. records_from m bs start) z ∙ cond-true (ltb start.place (length bs)) _ _ (lt-ltb start.place (length bs) h)

@@ -62,23 +62,33 @@ impl<'a> Record<'a> {
         word(self.file, self.place() + 2)
     }
 
-    // The fields, where the record has a kind and at most 40 whole fields.
-    #[tactic(auto, using(crate::proofs::Format::fields_more))]
-    fn fields(&self) -> Option<ArrayVec<u16, 40>>
-        ensures read { let n = length_at self.now.file.now self.now.start in IfSome result (λ fields. (whole_fields n ≡ true) × (fields.items ≡ fields_at self.now.file.now (self.now.start.place + 4) ((n - 2) / 2))) }
+    // How many fields the record has, where it has a kind and at most 40 whole fields.
+    fn field_count(&self) -> Option<usize>
+        ensures counted { let n = length_at self.now.file.now self.now.start in IfSome result (λ count. (whole_fields n ≡ true) × (count ≡ (n - 2) / 2) × (count ≤ 40)) }
         ensures refused { let n = length_at self.now.file.now self.now.start in IfNone result (whole_fields n ≡ true → 40 < (n - 2) / 2) }
     {
         let size = usize::from(self.length()).checked_sub(2)?;
-        let place = self.place() + 4;
-        let (pairs, odd) = self.file[place..place + size].as_chunks::<2>();
-        if !odd.is_empty() || pairs.len() > 40 {
+        if size % 2 != 0 || size > 80 {
             return None;
         }
-        let mut fields = ArrayVec::new();
-        for pair in pairs {
-            fields.push(u16::from_le_bytes(*pair));
+        Some(size / 2)
+    }
+
+    // So many fields, not wrapped in an answer, which would copy them once more. They are put into an array by their index: a push
+    // for each would store the vector's length each time.
+    fn fields(&self, count: usize) -> ArrayVec<u16, 40>
+        requires { (count ≤ 40) × (self.now.start.place + 4 + 2 * count ≤ length self.now.file.now) }
+        ensures { result.items ≡ fields_at self.now.file.now (self.now.start.place + 4) count }
+    {
+        let place = self.place() + 4;
+        let (pairs, _) = self.file[place..place + 2 * count].as_chunks::<2>();
+        let mut words = [0; 40];
+        for (i, pair) in pairs.iter().enumerate() {
+            words[i] = u16::from_le_bytes(*pair);
         }
-        Some(fields)
+        let mut fields = ArrayVec::from(words);
+        fields.truncate(count);
+        fields
     }
 
     // The sheet in the record's body, if that is one of the kind S.
@@ -87,8 +97,8 @@ impl<'a> Record<'a> {
         ensures { meaning S.SheetKind.declares result ≡ body_judged S.SheetKind.judged self.now.file.now self.now.start }
     {
         let fault = FileFault::WrongLength(self.start.at(0));
-        let fields = self.fields().ok_or(fault)?;
-        S::from_fields(&fields, self.start)
+        let count = self.field_count().ok_or(fault)?;
+        S::from_fields(&self.fields(count), self.start)
     }
 
     // The record's sheet.

@@ -10,20 +10,23 @@ use crate::sheet::RowSheet;
 use arrayvec::ArrayVec;
 use sheets::{FileFault, RecordStart, Row, SheetKind};
 
-// The rows of these fields, four each.
+// The rows of these fields, four each. They are put into an array by their index: a push for each would store the vector's length each
+// time.
 fn rows_of(fields: &[[u16; 4]]) -> ArrayVec<Row, 8>
     requires { length fields.now ≤ 8 }
     ensures { result.items ≡ map row_of fields.now }
 {
-    let mut rows = ArrayVec::new();
-    for &[period, deadline, budget, copies] in fields {
-        rows.push(Row {
+    let mut held = [Row::default(); 8];
+    for (i, &[period, deadline, budget, copies]) in fields.iter().enumerate() {
+        held[i] = Row {
             period,
             deadline,
             budget,
             copies,
-        });
+        };
     }
+    let mut rows = ArrayVec::from(held);
+    rows.truncate(fields.len());
     rows
 }
 
