@@ -9,7 +9,7 @@ ghost use Rattle.tasks.specs.declared.task.MakeRefusal.{MakeRefusal};
 
 use crate::sheet::RowSheet;
 use sheets::{FileFault, Location, RecordStart, Row, accept, is_power, lies_in};
-use tasks::{MakeRefusal, Task, rows_of_tasks};
+use tasks::{MakeRefusal, Task, TaskRows, rows_of_tasks};
 
 // The row's fields in file order, the row being `offset` bytes into its record. The two meet in `start.at`, and only here and below.
 fn judge_fields(row: &Row, start: RecordStart, offset: u32) -> Result<(), FileFault>
@@ -94,8 +94,8 @@ impl RowSheet {
         ensures no_other { result ≡ Ok tt → (rs : List Row) → Grouped (map rounded tasks.now) rs → rs ≡ sheet_rows self.new }
         ensures kept { (e : MakeRefusal) → result ≡ Err e → self.new ≡ self.old }
     {
-        let rows = rows_of_tasks(tasks)?;
-        *self = RowSheet::holding(rows.as_slice());
+        let TaskRows { rows, len } = rows_of_tasks(tasks)?;
+        *self = RowSheet { rows, len };
         Ok(())
     }
 }

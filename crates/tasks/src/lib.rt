@@ -5,5 +5,5 @@
 mod making;
 mod task;
 
-pub use making::rows_of_tasks;
+pub use making::{TaskRows, rows_of_tasks};
 pub use task::{MakeRefusal, Task};

@@ -1,4 +1,4 @@
-ghost use Rattle.std.specs.Prelude.{◌≡◌, ◌≤◌, true, not, List, map, length, IfOk, if◌then◌else◌, Ok};
+ghost use Rattle.std.specs.Prelude.{◌≡◌, ◌≤◌, true, not, List, map, length, take, IfOk, if◌then◌else◌, Ok};
 ghost use Rattle.std.specs.List.{AllByRecursion, position};
 ghost use Rattle.sheets.specs.Rows.{sound_rows};
 ghost use Rattle.tasks.specs.Tasks.{power_below, power_above, task_sound, rounded, alike, copies_of, Ascending, Grouped, crowded, refused_by, tasks_in_range, tasks_judged};
@@ -11,6 +11,28 @@ ghost use Rattle.sheets.specs.declared.row.Row.{Row};
 use crate::task::{MakeRefusal, Task};
 use arrayvec::ArrayVec;
 use sheets::{Row, lies_in};
+
+// The rows that a task list makes, in the first `len` slots. Slots at and past `len` have no meaning. An array with a length, since
+// these rows are `Copy` and the library's `ArrayVec` is not.
+#[derive(Clone, Copy)]
+pub struct TaskRows {
+    pub rows: [Row; 8],
+    pub len: usize,
+}
+
+impl TaskRows {
+    // These rows, in the first slots.
+    fn holding(rows: &[Row]) -> TaskRows
+        requires { length rows.now ≤ 8 }
+        ensures rows { take result.len result.rows ≡ rows.now }
+        ensures len { result.len ≡ length rows.now }
+    {
+        let len = rows.len();
+        let mut held = [Row::default(); 8];
+        held[0..len].copy_from_slice(rows);
+        TaskRows { rows: held, len }
+    }
+}
 
 // The largest of the powers of two from 1 to 4,096 that is at most x.
 fn round_down(x: u16) -> u16
@@ -139,12 +161,13 @@ fn group_tasks(tasks: &[Task]) -> Result<ArrayVec<Row, 8>, MakeRefusal>
 
 // The rows of a sheet for these tasks: rounded, grouped and counted, in sheet order. There are no other such rows, and the rules
 // accept them.
-pub fn rows_of_tasks(tasks: &[Task]) -> Result<ArrayVec<Row, 8>, MakeRefusal>
+pub fn rows_of_tasks(tasks: &[Task]) -> Result<TaskRows, MakeRefusal>
     ensures answer { meaning (λ _. tt {0}) result ≡ tasks_judged tasks.now }
-    ensures grouped { IfOk result (λ r. Grouped (map rounded tasks.now) r.items) }
-    ensures no_other { IfOk result (λ r. (rs : List Row) → Grouped (map rounded tasks.now) rs → rs ≡ r.items) }
-    ensures sound { IfOk result (λ r. (length r.items ≤ 8) × (sound_rows r.items ≡ true)) }
+    ensures grouped { IfOk result (λ r. Grouped (map rounded tasks.now) (take r.len r.rows)) }
+    ensures no_other { IfOk result (λ r. (rs : List Row) → Grouped (map rounded tasks.now) rs → rs ≡ take r.len r.rows) }
+    ensures sound { IfOk result (λ r. (r.len ≤ 8) × (sound_rows (take r.len r.rows) ≡ true)) }
 {
     judge_tasks(tasks)?;
-    group_tasks(tasks)
+    let rows = group_tasks(tasks)?;
+    Ok(TaskRows::holding(rows.as_slice()))
 }
