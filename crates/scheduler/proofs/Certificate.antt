@@ -23,7 +23,7 @@ use Rattle.scheduler.proofs.Weak.{Picks, May, MayAll}
 use Rattle.scheduler.proofs.Soundness.{Sound, sound}
 
 -- a refusal that does not apply
-passes : (b : Bool) (why : CallRefusal) (o : Option CallRefusal) → cond b (Some why) o ≡ None → (b ≡ false) × (o ≡ None)
+pub passes : {X : Type 0} (b : Bool) (why : X) (o : Option X) → cond b (Some why) o ≡ None → (b ≡ false) × (o ≡ None)
 passes true why o e = cc
 passes false why o e = (refl, e)
 

@@ -36,22 +36,22 @@ cut_same now j = by (leb j.due now)
 
 -- a table whose jobs are the same
 module _ (now : ℕ) (js ys : List Entry) (long : length ys ≡ length js) (each : (i : ℕ) → i < length js → SameJob (at js i) (at ys i)) where
-  numbered_same : Numbered js → Numbered ys
+  pub numbered_same : Numbered js → Numbered ys
   numbered_same o n l = (each n (omega (arith, l, long))).number_same ∙ o n (omega (arith, l, long))
 
-  dated_same : Dated now js → Dated now ys
+  pub dated_same : Dated now js → Dated now ys
   dated_same d n l =
       let s = each n (omega (arith, l, long)) in
       let o = d n (omega (arith, l, long)) in
       (omega (arith, s.arrival_same, o.0), omega (arith, s.arrival_same, s.due_same, o.1), omega (arith, s.arrival_same, s.due_same, o.2))
 
-  slow_same : Slow now js → Slow now ys
+  pub slow_same : Slow now js → Slow now ys
   slow_same d n l =
       let s = each n (omega (arith, l, long)) in
       let o = d n (omega (arith, l, long)) in
       (omega (arith, s.arrival_same, s.used_same, o.0), omega (arith, s.arrival_same, s.due_same, s.used_same, o.1))
 
-  ascending_same : Ascending js → Ascending ys
+  pub ascending_same : Ascending js → Ascending ys
   ascending_same up m n le l =
       omega (arith, up m n le (omega (arith, l, long)), (each m (omega (arith, le, l, long))).arrival_same, (each n (omega (arith, l, long))).arrival_same)
 
@@ -79,16 +79,16 @@ module _ (now : ℕ) (js : List Entry) (m k d : ℕ) (low : 1 ≤ d) (high : d �
       let e : length js ≡ i = omega (arith, l, ge, length_push js (born now m k d)) in subst (P i) (sym (get_or_push js (born now m k d) empty_entry i e)) (new i e))
       (cases_lt i (length js))
 
-  numbered_push : m ≡ length js → Numbered js → Numbered pushed
+  pub numbered_push : m ≡ length js → Numbered js → Numbered pushed
   numbered_push e o = old_or_new (λ i j. j.number ≡ i) o (λ i q. e ∙ q)
 
-  dated_push : Dated now js → Dated now pushed
+  pub dated_push : Dated now js → Dated now pushed
   dated_push o = old_or_new (λ i j. (j.arrival ≤ now) × (j.arrival < j.due) × (j.due ≤ j.arrival + 4096)) o (λ i e. (omega arith, omega arith, omega arith))
 
-  slow_push : Slow now js → Slow now pushed
+  pub slow_push : Slow now js → Slow now pushed
   slow_push o = old_or_new (λ i j. (j.used + j.arrival ≤ now) × (j.used + j.arrival ≤ j.due)) o (λ i e. (omega arith, omega arith))
 
-  ascending_push : Dated now js → Ascending js → Ascending pushed
+  pub ascending_push : Dated now js → Ascending js → Ascending pushed
   ascending_push o up a b le l =
       old_or_new (λ i j. i ≤ b → j.arrival ≤ (at pushed b).arrival)
       (λ i lt le. old_or_new (λ c x. i ≤ c → (at js i).arrival ≤ x.arrival) (λ c lt' le'. up i c le' lt') (λ c e le'. (o i lt).0) b l le)
@@ -135,7 +135,7 @@ open_later now js n o =
     subst (λ j. now < j.due) (sym e) (not_due (leb (at js n).due now) now (at js n) refl (ap (λ (j : Entry). is_open j.status) (sym e) ∙ o.1))
 
 -- The clock rises, and an open job that is due later may have used one unit more.
-module _ (now : ℕ) (js : List Entry) (kept : TableKeeps now js) where
+module _ (now : ℕ) (js : List Entry) (dated : Dated now js) (slow : Slow now js) (up : Ascending js) where
   abbrev RanInTime : Option ℕ → Type 0
   RanInTime o = (n : ℕ) → o ≡ Some n → (n < length js) × (now < (at js n).due)
 
@@ -143,13 +143,13 @@ module _ (now : ℕ) (js : List Entry) (kept : TableKeeps now js) where
   Aged j i = (i.arrival ≡ j.arrival) × (i.due ≡ j.due) × (i.used + i.arrival ≤ now + 1) × (i.used + i.arrival ≤ j.due) × (i.number ≡ j.number)
 
   aged : (o : Option ℕ) → RanInTime o → (i : ℕ) → i < length js → Aged (at js i) (at (with_unit o js) i)
-  aged None known i l = let w = kept.slow i l in (refl, refl, omega (arith, w.0), w.1, refl)
+  aged None known i l = let w = slow i l in (refl, refl, omega (arith, w.0), w.1, refl)
   aged (Some n) known i l =
-      let w = kept.slow i l in
+      let w = slow i l in
       ⊎_elim
       (λ (q : n ≡ i).
       let k = known n refl in
-      let v = kept.slow n k.0 in
+      let v = slow n k.0 in
       subst (λ m. Aged (at js m) (at (with_unit (Some n) js) m)) q
       (subst (Aged (at js n)) (sym (get_or-set_same js n _ empty_entry k.0)) (refl, refl, omega (arith, v.0), omega (arith, v.0, k.1), refl)))
       (λ (ne : n ≡ i → ⊥). subst (Aged (at js i)) (sym (get_or-set_other js n i _ empty_entry (λ e. ne (sym e)))) (refl, refl, omega (arith, w.0), w.1, refl))
@@ -159,21 +159,26 @@ module _ (now : ℕ) (js : List Entry) (kept : TableKeeps now js) where
     long : length (with_unit o js) ≡ length js
     long = unit_length o js
 
-    numbered_ran : Numbered (with_unit o js)
-    numbered_ran i l = (aged o known i (omega (arith, l, long))).4 ∙ kept.numbered i (omega (arith, l, long))
+    pub numbered_ran : Numbered js → Numbered (with_unit o js)
+    numbered_ran q i l = (aged o known i (omega (arith, l, long))).4 ∙ q i (omega (arith, l, long))
 
-    dated_ran : Dated (now + 1) (with_unit o js)
+    pub dated_ran : Dated (now + 1) (with_unit o js)
     dated_ran i l =
         let a = aged o known i (omega (arith, l, long)) in
-        let d = kept.dated i (omega (arith, l, long)) in
+        let d = dated i (omega (arith, l, long)) in
         (omega (arith, a.0, d.0), omega (arith, a.0, a.1, d.1), omega (arith, a.0, a.1, d.2))
 
-    slow_ran : Slow (now + 1) (with_unit o js)
+    pub slow_ran : Slow (now + 1) (with_unit o js)
     slow_ran i l = let a = aged o known i (omega (arith, l, long)) in (a.2, omega (arith, a.1, a.3))
 
-    ascending_ran : Ascending (with_unit o js)
+    pub ascending_ran : Ascending (with_unit o js)
     ascending_ran m n le l =
-        omega (arith, kept.ascending m n le (omega (arith, l, long)), (aged o known m (omega (arith, le, l, long))).0, (aged o known n (omega (arith, l, long))).0)
+        omega (arith, up m n le (omega (arith, l, long)), (aged o known m (omega (arith, le, l, long))).0, (aged o known n (omega (arith, l, long))).0)
 
-    pub kept_ran : TableKeeps (now + 1) (with_unit o js)
-    kept_ran = record { numbered = numbered_ran; dated = dated_ran; slow = slow_ran; ascending = ascending_ran }
+pub kept_ran : (now : ℕ) (js : List Entry) (kept : TableKeeps now js) (o : Option ℕ) → ((n : ℕ) → o ≡ Some n → (n < length js) × (now < (at js n).due)) → TableKeeps (now + 1) (with_unit o js)
+kept_ran now js kept o known = record {
+  numbered = numbered_ran now js kept.dated kept.slow kept.ascending o known kept.numbered;
+  dated = dated_ran now js kept.dated kept.slow kept.ascending o known;
+  slow = slow_ran now js kept.dated kept.slow kept.ascending o known;
+  ascending = ascending_ran now js kept.dated kept.slow kept.ascending o known;
+}

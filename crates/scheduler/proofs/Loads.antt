@@ -24,7 +24,7 @@ pub inside_other : (k s e : ℕ) (j : Job) → (j.component ≡ k → ⊥) → i
 inside_other k s e j c = and_left (eqb j.component k) (leb s j.arrival && leb j.due e) (ne_eqb j.component k c)
 
 -- a later end takes in no less, and one past the due tick takes in all
-share_le : (k s e f : ℕ) (j : Job) (u : ℕ) → j.due ≤ f → cond (inside k s e j) u 0 ≤ cond (inside k s f j) u 0
+pub share_le : (k s e f : ℕ) (j : Job) (u : ℕ) → j.due ≤ f → cond (inside k s e j) u 0 ≤ cond (inside k s f j) u 0
 share_le k s e f j u due =
     ⊎_elim
     (λ t. let i = inside_true k s e j t in omega (arith, cond-true (inside k s e j) u 0 t, cond-true (inside k s f j) u 0 (inside_from k s f j i.0 i.1 due)))

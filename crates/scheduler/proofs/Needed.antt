@@ -25,7 +25,7 @@ module _ (bound : ℕ → ℕ → ℕ) (h : History) (laws : Certified bound h) 
       sum_less (count h) (λ i. cond (inside k s e (job h i)) (units h i) 0) (λ i. cond (inside k s e (job h i)) (need i) 0) n l
       (omega (arith, short, cond-true (inside k s e (job h n)) (units h n) 0 t, cond-true (inside k s e (job h n)) (need n) 0 t)) (share_within s e)
 
-  need_met : (n : ℕ) → n < count h → (job h n).component ≡ k → fate h n ≡ cut → units h n ≡ need n
+  pub need_met : (n : ℕ) → n < count h → (job h n).component ≡ k → fate h n ≡ cut → units h n ≡ need n
   need_met n l c e =
       ⊎_elim
       (λ (short : units h n < need n).

@@ -12,11 +12,11 @@ use Rattle.scheduler.proofs.Loads.{inside_true, inside_from}
 use Rattle.scheduler.proofs.Sums.{sum_le}
 use Rattle.scheduler.proofs.Spent.{used_more}
 
-due_by_true : (k e : ℕ) (j : Entry) → due_by k e j ≡ true → (j.component ≡ k) × (j.due ≤ e)
+pub due_by_true : (k e : ℕ) (j : Entry) → due_by k e j ≡ true → (j.component ≡ k) × (j.due ≤ e)
 due_by_true k e j t =
     let p = and_parts (eqb j.component k) (leb j.due e) t in (eqb-true j.component k p.0, leb-true j.due e p.1)
 
-due_by_from : (k e : ℕ) (j : Entry) → j.component ≡ k → j.due ≤ e → due_by k e j ≡ true
+pub due_by_from : (k e : ℕ) (j : Entry) → j.component ≡ k → j.due ≤ e → due_by k e j ≡ true
 due_by_from k e j c d = and_from (eqb j.component k) (leb j.due e) (eq-eqb j.component k c) (le-leb j.due e d)
 
 share_none : (b : Bool) (x : ℕ) → (b ≡ true → ⊥) → cond b x 0 ≡ 0

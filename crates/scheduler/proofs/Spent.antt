@@ -7,7 +7,7 @@ use Rattle.scheduler.specs.Table.{at, empty_entry, arrival_in, Ascending}
 use Rattle.scheduler.specs.Policing.{due_by, used_below, SpentFrom, EarliestOf}
 
 -- of the numbers from i on
-abbrev From : (ℕ → Type 0) → ℕ → ℕ → Type 0
+abbrev pub From : (ℕ → Type 0) → ℕ → ℕ → Type 0
 From P i m = (i ≤ m) × P m
 
 module _ (P : ℕ → Type 0) (tick : ℕ → ℕ) where

@@ -12,7 +12,7 @@ pub record Fair (parts : ℕ) (bound : ℕ → ℕ → ℕ) : Type 0 where
   pub fits : (l : ℕ) → 0 < l → total parts (λ k. bound k l) ≤ l
 
 -- one of those with P that is due first, or none where none has P
-abbrev Earliest : (ℕ → Type 0) → (ℕ → ℕ) → Option ℕ → Type 0
+abbrev pub Earliest : (ℕ → Type 0) → (ℕ → ℕ) → Option ℕ → Type 0
 Earliest P due (Some n) = P n × ((m : ℕ) → P m → due n ≤ due m)
 Earliest P due None = (m : ℕ) → P m → ⊥
 
